@@ -1,0 +1,4 @@
+pub mod ViewLaws
+pub mod KnownLaws
+pub mod ChainLaws
+pub mod Promises
