@@ -1,0 +1,192 @@
+//! Live scripts of every shape.
+
+use super::composer::Composer;
+use crate::random::Random;
+use crate::script::call::Call;
+
+pub fn script(random: &mut Random) -> Vec<Call> {
+    let shape = random.below(20);
+    let mut composer = Composer::new(random);
+    match shape {
+        0 => composer.fill_rounds(),
+        1 => composer.fill_edits(),
+        2 => composer.fill_everything(),
+        3 | 4 => composer.never_open(),
+        5..=9 => composer.scribble(),
+        _ => composer.mix(),
+    }
+    composer.calls
+}
+
+impl Composer<'_> {
+    fn mix(&mut self) {
+        self.open();
+        for _ in 0..self.random.between(10, 90) {
+            self.any_call();
+        }
+    }
+
+    fn any_call(&mut self) {
+        match self.random.below(100) {
+            0..=24 => self.round(),
+            25..=29 => self.round_badly(),
+            30..=49 => self.edit(),
+            50..=55 => self.edit_badly(),
+            56..=95 => self.ask(),
+            96 => self.open(),
+            97 | 98 => self.open_badly(),
+            _ => self.reveal(),
+        }
+    }
+
+    /// Alterations, most of them repaired after a few calls.
+    fn scribble(&mut self) {
+        self.open();
+        for _ in 0..self.random.between(5, 20) {
+            self.any_calls();
+            let repair = self.alter();
+            self.any_calls();
+            if self.random.chance(850) {
+                self.put(repair);
+            }
+        }
+        self.any_calls();
+    }
+
+    fn any_calls(&mut self) {
+        for _ in 0..self.random.between(1, 6) {
+            self.any_call();
+        }
+    }
+
+    /// A table that is asked before it is opened, or opened by hand.
+    fn never_open(&mut self) {
+        for _ in 0..self.random.between(1, 8) {
+            self.any_call_but_opening();
+        }
+        if self.random.chance(700) {
+            self.open_by_hand();
+        }
+        for _ in 0..self.random.between(5, 30) {
+            self.any_call_but_opening();
+        }
+    }
+
+    fn any_call_but_opening(&mut self) {
+        match self.random.below(10) {
+            0 | 1 => self.round(),
+            2 => self.round_badly(),
+            3 | 4 => self.edit(),
+            5 => self.edit_badly(),
+            _ => self.ask(),
+        }
+    }
+
+    /// All 127 rounds, with few questions and edits between.
+    fn fill_rounds(&mut self) {
+        self.open();
+        while self.table.rounds < 127 {
+            self.round();
+            if self.random.chance(100) {
+                self.any_call_but_opening();
+            }
+        }
+        self.after_filling();
+    }
+
+    /// All 512 edits, in a few rounds.
+    fn fill_edits(&mut self) {
+        self.open();
+        while self.table.edits < 512 {
+            self.put_rising_edit();
+            if self.random.chance(10) {
+                self.round();
+                self.ask();
+            }
+        }
+        self.after_filling();
+    }
+
+    /// All rounds and all edits: the longest table.
+    fn fill_everything(&mut self) {
+        self.put(Call::Open { seats: 7, bound: 6 });
+        while self.table.rounds < 127 {
+            for _ in 0..4 {
+                self.put_rising_edit();
+            }
+            self.round();
+        }
+        for _ in 0..4 {
+            self.put_rising_edit();
+        }
+        self.after_filling();
+    }
+
+    /// An edit by seat 0 whose cell rises with the count of edits, so that all fit.
+    fn put_rising_edit(&mut self) {
+        let cell = 60_000 + u32::from(self.table.edits);
+        let change = self.random.pick(&[-32_768, 32_767]);
+        self.put(Call::Edit { seat: 0, cell, change });
+    }
+
+    fn after_filling(&mut self) {
+        for _ in 0..20 {
+            self.any_call_but_opening();
+        }
+        self.reveal();
+        self.any_calls();
+        self.open();
+        self.any_calls();
+    }
+}
+
+#[cfg(test)]
+mod tests {
+    use super::*;
+    use crate::live::Table;
+    use crate::script::play;
+    use std::collections::BTreeMap;
+
+    /// How often each call ends in each refusal; 0 stands for an answer.
+    fn outcomes(count: usize) -> BTreeMap<(&'static str, u8), usize> {
+        let mut random = Random::new(1);
+        let mut met = BTreeMap::new();
+        for _ in 0..count {
+            let mut table = Table::never_opened();
+            for call in script(&mut random) {
+                let line = play::line(&mut table, &call);
+                let refusal = line.trim_end().split_once(" refused ");
+                let number = refusal.map_or(0, |(_, number)| number.parse().unwrap());
+                *met.entry((call.name(), number)).or_insert(0) += 1;
+            }
+        }
+        met
+    }
+
+    #[test]
+    fn scripts_reach_every_refusal_of_every_call() {
+        let met = outcomes(300);
+        let expected: [(&str, &[u8]); 12] = [
+            ("open", &[0, 3]),
+            ("round", &[0, 4, 10, 11, 19]),
+            ("edit", &[0, 3, 5, 12, 19]),
+            ("view", &[0, 7, 8, 19]),
+            ("known", &[0, 8, 19]),
+            ("settled", &[0, 8, 9, 19]),
+            ("core", &[0, 7, 8, 9, 19]),
+            ("marks", &[0, 7, 8, 9, 19]),
+            ("count", &[0, 8, 9, 19]),
+            ("loser", &[0, 8, 19]),
+            ("record", &[0, 7, 19]),
+            ("alter", &[0]),
+        ];
+        for (name, numbers) in expected {
+            for &number in numbers {
+                let count = met.get(&(name, number)).copied().unwrap_or(0);
+                assert!(count >= 5, "{name} {number}: {count}");
+            }
+        }
+        let possible: usize = expected.iter().map(|(_, numbers)| numbers.len()).sum();
+        assert_eq!(met.len(), possible, "{met:?}");
+    }
+}
