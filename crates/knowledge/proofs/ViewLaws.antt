@@ -61,7 +61,7 @@ up-to-same : (p k : ℕ) → upTo p k p ≡ suc k
 unfolding upTo
 up-to-same p k = rw (eq-eqb p p refl)
 
-up-to-from : (p k q j : ℕ) → j < upTo p k q → (q ≡ p) × (j ≤ k)
+pub up-to-from : (p k q j : ℕ) → j < upTo p k q → (q ≡ p) × (j ≤ k)
 unfolding upTo
 up-to-from p k q j h = by (eqb q p) refl h
   where
@@ -90,7 +90,7 @@ view-receives farm p s k q h e =
     (le-max-right _ _)
 
 -- Nothing else is in it.
-abbrev FromBefore : Farm → (p k q j : ℕ) → Type 0
+abbrev pub FromBefore : Farm → (p k q j : ℕ) → Type 0
 FromBefore farm p k q j =
     ((q ≡ p) × (j ≡ suc k))
     ⊎ (j < view farm p k q)
