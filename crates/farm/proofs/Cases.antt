@@ -33,6 +33,11 @@ pub and-elim : (a b : Bool) → (a && b) ≡ true → (a ≡ true) × (b ≡ tru
 and-elim true b e = (refl, e)
 and-elim false b e = absurd (true≢false (sym e))
 
+pub true-together : (a b : Bool) → (a ≡ true → b ≡ true) → (b ≡ true → a ≡ true) → a ≡ b
+true-together true b to from = sym (to refl)
+true-together false true to from = from refl
+true-together false false to from = refl
+
 pub less-or-not : (a b : ℕ) → (a < b) ⊎ (b ≤ a)
 less-or-not a b = by (ltb a b) refl
   where

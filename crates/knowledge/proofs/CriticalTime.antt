@@ -75,5 +75,5 @@ core-from farm ℓ known within q j h = by (less-or-not (ℓ + size (farm .seats
     by (inl early) = absurd (not-suc-le-zero (rw (critical-time-below farm ℓ known within early) at h))
     by (inr begun) =
         let w = joined-from (farm .seats) (bit (outside (farm .seats) known)) (λ s. view farm s k) q j
-            (rw (critical-time-at farm ℓ known within begun) at h) in
+        (rw (critical-time-at farm ℓ known within begun) at h) in
         (w .0, k, w .1, not-true (bit known (w .0)) (sym (bit-outside (farm .seats) known (w .0) (w .1)) ∙ w .2), omega arith, w .3)

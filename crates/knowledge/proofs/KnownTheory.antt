@@ -3,34 +3,37 @@
 use mathlib.Core.Path.{_≡_, sym, _∙_}
 use mathlib.Core.Logic.{⊎-elim}
 use mathlib.Core.Bool.{Bool, true, false, true≢false}
-use Prim.Native.Nat.{ℕ, suc, _≤_, _<_}
+use Prim.Native.Nat.{ℕ, suc, _^_, _≤_, _<_}
 use native.Mathlib.Nat.{le-trans, lt-of-lt-of-le}
 use native.Mathlib.Omega.{arith}
 use Rattle.farm.specs.Sets.{bit}
 use Rattle.farm.proofs.Cases.{true-or-false}
+use Rattle.farm.proofs.SetLaws.{Subset, collect-below}
 use Rattle.knowledge.specs.Farm.{Farm, time, losersBy}
 use Rattle.knowledge.specs.Views.{View, view}
-use Rattle.knowledge.specs.Known.{knownIn}
+use Rattle.knowledge.specs.Known.{missed, knownIn}
 use Rattle.knowledge.proofs.ViewLaws.{view-receives}
 use Rattle.knowledge.proofs.KnownLaws.{known-intro, known-elim, loser-intro, loser-elim}
 use Rattle.knowledge.proofs.ViewTheory.{view-past, Closed}
 
+-- A known set is one of seats below n.
+pub known-below : (farm : Farm) (v : View) → knownIn farm v < 2 ^ farm .seats
+unfolding knownIn
+known-below farm v = collect-below (farm .seats) (missed farm v)
+
 -- A larger view knows more.
-pub known-grows : (farm : Farm) (v w : View) → ((q j : ℕ) → j < v q → j < w q) → (z : ℕ) → z < farm .seats
-    → bit (knownIn farm v) z ≡ true → bit (knownIn farm w) z ≡ true
+pub known-grows : (farm : Farm) (v w : View) → ((q j : ℕ) → j < v q → j < w q) → Subset (farm .seats) (knownIn farm v) (knownIn farm w)
 known-grows farm v w inside z hz e =
     let k = known-elim farm v z hz e in
     known-intro farm w z (k .0) (k .1) hz (k .2) (k .3) (inside (k .0) (k .1) (k .4)) (k .5)
 
 -- Whoever is known is a loser by then.
-pub known-lost : (farm : Farm) (p ℓ z : ℕ) → z < farm .seats → bit (knownIn farm (view farm p ℓ)) z ≡ true
-    → bit (losersBy farm (time ℓ)) z ≡ true
+pub known-lost : (farm : Farm) (p ℓ : ℕ) → Subset (farm .seats) (knownIn farm (view farm p ℓ)) (losersBy farm (time ℓ))
 known-lost farm p ℓ z hz e =
     let k = known-elim farm (view farm p ℓ) z hz e in
     loser-intro farm ℓ z (k .0) (k .1) hz (k .2) (k .3) (view-past farm p ℓ (k .0) (k .1) (k .4)) (k .5)
 
-pub losers-grow : (farm : Farm) (k ℓ : ℕ) → k ≤ ℓ → (z : ℕ) → z < farm .seats
-    → bit (losersBy farm (time k)) z ≡ true → bit (losersBy farm (time ℓ)) z ≡ true
+pub losers-grow : (farm : Farm) (k ℓ : ℕ) → k ≤ ℓ → Subset (farm .seats) (losersBy farm (time k)) (losersBy farm (time ℓ))
 losers-grow farm k ℓ h z hz e =
     let w = loser-elim farm k z hz e in
     loser-intro farm ℓ z (w .0) (w .1) hz (w .2) (w .3) (le-trans (w .4) h) (w .5)
@@ -44,7 +47,7 @@ pub unknown-delivers : (farm : Farm) (v : View) → Closed farm v → (q g j x :
     → suc j < v q → bit (knownIn farm v) g ≡ false → view farm g j x ≤ v x
 unknown-delivers farm v closed q g j x hq hg seen f =
     let arrived : farm .lost (suc j) g q ≡ false =
-        not-lost (farm .lost (suc j) g q) (bit (knownIn farm v) g) (known-intro farm v g q (suc j) hg hq (omega arith) seen) f in
+    not-lost (farm .lost (suc j) g q) (bit (knownIn farm v) g) (known-intro farm v g q (suc j) hg hq (omega arith) seen) f in
     le-trans (view-receives farm q g j x hg arrived) (closed q (suc j) seen x)
 
 -- A clean seat delivers to everyone.
@@ -52,5 +55,5 @@ pub clean-delivers : (farm : Farm) (ℓ q g j x : ℕ) → q < farm .seats → g
     → bit (losersBy farm (time ℓ)) g ≡ false → view farm g j x ≤ view farm q (suc j) x
 clean-delivers farm ℓ q g j x hq hg done f =
     let arrived : farm .lost (suc j) g q ≡ false =
-        not-lost (farm .lost (suc j) g q) (bit (losersBy farm (time ℓ)) g) (loser-intro farm ℓ g q (suc j) hg hq (omega arith) done) f in
+    not-lost (farm .lost (suc j) g q) (bit (losersBy farm (time ℓ)) g) (loser-intro farm ℓ g q (suc j) hg hq (omega arith) done) f in
     view-receives farm q g j x hg arrived

@@ -4,4 +4,7 @@ pub mod ChainLaws
 pub mod ViewTheory
 pub mod KnownTheory
 pub mod CriticalTime
+pub mod ChainTheory
+pub mod StepTheory
+pub mod OutcomeTheory
 pub mod Promises

@@ -7,10 +7,11 @@ use native.Mathlib.Nat.{lt-of-le-of-lt, not-suc-le-zero}
 use native.Mathlib.Omega.{arith}
 use Rattle.knowledge.specs.Farm.{seat, time}
 use Rattle.knowledge.specs.Views.{InView, InViews, viewOf, viewsOf}
+use Rattle.knowledge.specs.Settled.{outcomeOf}
 use Rattle.knowledge.specs.Promises.{View-is-computed, Views-are-computed, View-holds-earlier-times, Known-is-computed, Known-of-a-place-is-computed, Loser-is-computed, Outcome-is-computed}
 use Rattle.knowledge.proofs.ViewLaws.{in-view-sound, in-view-complete, in-views-sound, in-views-complete, at-most-latest}
 use Rattle.knowledge.proofs.KnownLaws.{known-of-counted, loser-intro, loser-elim}
-use Rattle.knowledge.proofs.ChainLaws.{stage-start, settle-outcome}
+use Rattle.knowledge.proofs.OutcomeTheory.{outcome-unique, outcome-exists}
 
 pub view-is-computed : View-is-computed
 view-is-computed farm p k x =
@@ -42,5 +43,7 @@ loser-is-computed farm ℓ z h = (
 )
 
 pub outcome-is-computed : Outcome-is-computed
-outcome-is-computed farm p ℓ real zero steps high = absurd (not-suc-le-zero (steps .begun))
-outcome-is-computed farm p ℓ real (suc h) steps high = rw (← stage-start farm p ℓ real) (settle-outcome farm p ℓ h steps (omega arith))
+outcome-is-computed farm fits p ℓ hp o = (
+  λ a. outcome-unique farm p ℓ o (outcomeOf farm p ℓ) a (outcome-exists farm fits p ℓ hp),
+  λ e. rw e (outcome-exists farm fits p ℓ hp),
+)

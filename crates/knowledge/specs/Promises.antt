@@ -2,7 +2,7 @@
 use mathlib.Core.Path.{_≡_}
 use mathlib.Core.Logic.{_↔_}
 use mathlib.Core.Bool.{true}
-use Prim.Native.Nat.{ℕ, suc, _≤_}
+use Prim.Native.Nat.{ℕ, suc, _≤_, _<_}
 use lib.IntN.{ℤ}
 use Rattle.farm.specs.Sets.{Seats, bit, size}
 use Rattle.farm.specs.declared.places.Seat.{Seat}
@@ -11,7 +11,11 @@ use Rattle.knowledge.specs.Farm.{Farm, Place, place, IsSeat, LoserBy, lo
 use Rattle.knowledge.specs.Views.{InView, InViews, viewOf, viewsOf, latest, AtMost}
 use Rattle.knowledge.specs.Known.{Known, knownIn, knownOf}
 use Rattle.knowledge.specs.Chain.{stage, IsSteps}
-use Rattle.knowledge.specs.Settled.{IsOutcome, outcomeOf}
+use Rattle.knowledge.specs.Settled.{Outcome, IsOutcome, outcomeOf}
+
+-- Every good record has this: the bound t is at most n − 1.
+abbrev pub BoundFits : Farm → Type 0
+BoundFits farm = farm .bound < farm .seats
 
 -- ════ The rules in their own words and the computed forms say the same ════
 
@@ -49,8 +53,8 @@ abbrev pub Loser-is-computed : Type 0
 Loser-is-computed =
     (farm : Farm) (ℓ : Time) (z : Seat) → IsSeat farm z → LoserBy farm ℓ z ↔ (bit (losersBy farm ℓ) (z .0) ≡ true)
 
--- Rules 3 to 6: where the chain stands still within |B₀| + 1 steps, the computed outcome is the one of the rules.
+-- Rules 3 to 6: the rules allow one outcome and no other, and it is the computed one.
 abbrev pub Outcome-is-computed : Type 0
 Outcome-is-computed =
-    (farm : Farm) (p : Seat) (ℓ : Time) → IsSeat farm p → (h : ℕ) → IsSteps farm p ℓ h
-    → h ≤ suc (size (farm .seats) (stage farm p ℓ 0 .known)) → IsOutcome farm p ℓ (outcomeOf farm p ℓ)
+    (farm : Farm) → BoundFits farm → (p : Seat) (ℓ : Time) → IsSeat farm p → (o : Outcome)
+    → IsOutcome farm p ℓ o ↔ (o ≡ outcomeOf farm p ℓ)
