@@ -14,7 +14,7 @@ use Rattle.knowledge.specs.Views.{View, view}
 use Rattle.knowledge.specs.Known.{missed, knownIn}
 use Rattle.knowledge.proofs.ViewLaws.{view-receives}
 use Rattle.knowledge.proofs.KnownLaws.{known-intro, known-elim, loser-intro, loser-elim}
-use Rattle.knowledge.proofs.ViewTheory.{view-past, Closed}
+use Rattle.knowledge.proofs.ViewTheory.{view-grows, view-past, Closed}
 
 -- A known set is one of seats below n.
 pub known-below : (farm : Farm) (v : View) → knownIn farm v < 2 ^ farm .seats
@@ -39,7 +39,7 @@ losers-grow farm k ℓ h z hz e =
     loser-intro farm ℓ z (w .0) (w .1) hz (w .2) (w .3) (le-trans (w .4) h) (w .5)
 
 -- A send whose loss would make true what is false was not lost.
-not-lost : (lost told : Bool) → (lost ≡ true → told ≡ true) → told ≡ false → lost ≡ false
+pub not-lost : (lost told : Bool) → (lost ≡ true → told ≡ true) → told ≡ false → lost ≡ false
 not-lost lost told tells f = ⊎-elim (λ e. absurd (true≢false (sym (tells e) ∙ f))) (λ e. e) (true-or-false lost)
 
 -- Who is not known in a closed view has delivered to each of its places.
@@ -57,3 +57,8 @@ clean-delivers farm ℓ q g j x hq hg done f =
     let arrived : farm .lost (suc j) g q ≡ false =
     not-lost (farm .lost (suc j) g q) (bit (losersBy farm (time ℓ)) g) (loser-intro farm ℓ g q (suc j) hg hq (omega arith) done) f in
     view-receives farm q g j x hg arrived
+
+-- So everyone's view has the views of a clean seat, the last round apart.
+pub clean-seen : (farm : Farm) (ℓ q g j x : ℕ) → q < farm .seats → g < farm .seats → j < ℓ
+    → bit (losersBy farm (time ℓ)) g ≡ false → view farm g j x ≤ view farm q ℓ x
+clean-seen farm ℓ q g j x hq hg done f = le-trans (clean-delivers farm ℓ q g j x hq hg done f) (view-grows farm q (suc j) ℓ x done)

@@ -7,4 +7,6 @@ pub mod CriticalTime
 pub mod ChainTheory
 pub mod StepTheory
 pub mod OutcomeTheory
+pub mod SoundChain
+pub mod Agreement
 pub mod Promises
