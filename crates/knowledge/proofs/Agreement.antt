@@ -1,7 +1,7 @@
 -- Agreement: where at most t seats have lost a send, all seats keep the same set. The core that shows a kept set has reached
 -- every clean seat one round after the critical time, so that set is inside every set of every other seat's chain.
 -- Assumes nothing.
-use mathlib.Core.Path.{_≡_, refl, sym, _∙_}
+use mathlib.Core.Path.{_≡_, sym, _∙_, ap}
 use mathlib.Core.Logic.{_⊎_, inl, inr, ⊎-elim}
 use mathlib.Core.Bool.{Bool, true, false}
 use Prim.Native.Nat.{ℕ, zero, suc, _+_, _≤_, _<_}
@@ -15,13 +15,14 @@ use Rattle.knowledge.specs.Farm.{Farm, IsSeat, time, losersBy}
 use Rattle.knowledge.specs.Views.{view}
 use Rattle.knowledge.specs.Known.{knownIn}
 use Rattle.knowledge.specs.Chain.{stage}
-use Rattle.knowledge.specs.Settled.{Settled, IsSettled, coreView, next}
+use Rattle.knowledge.specs.Settled.{Settled, Outcome, overBound, settled, IsSettled, IsOutcome, criticalTime, coreView, next}
+use Rattle.knowledge.specs.Promises.{Alike}
 use Rattle.knowledge.proofs.ViewLaws.{view-receives}
 use Rattle.knowledge.proofs.ChainLaws.{stage-start, stage-known}
 use Rattle.knowledge.proofs.KnownTheory.{not-lost, known-grows, clean-delivers, clean-seen}
 use Rattle.knowledge.proofs.CriticalTime.{core-has, core-from}
 use Rattle.knowledge.proofs.OutcomeTheory.{answer-fixed}
-use Rattle.knowledge.proofs.SoundChain.{Sound, clean-outside, stage-sound}
+use Rattle.knowledge.proofs.SoundChain.{Sound, clean-outside, start-within, stage-sound}
 
 module _ (farm : Farm) (fits : farm .bound < farm .seats) (ℓ : ℕ) (few : size (farm .seats) (losersBy farm (time ℓ)) ≤ farm .bound) where
   -- ════ The core spreads ════
@@ -109,7 +110,10 @@ module _ (farm : Farm) (fits : farm .bound < farm .seats) (ℓ : ℕ) (few : siz
       rw (stage-known farm p (time ℓ) i)
       (next-keeps known (stage farm p (time ℓ) i .known) s still (stage-sound farm fits ℓ few p hp i) (stage-keeps known s still p hp i))
 
-  -- ════ All seats keep the same set ════
+  -- ════ All seats are answered, and keep the same set ════
+
+  pub never-over : (p : Seat) → IsSeat farm p → ¬ IsOutcome farm p (time ℓ) overBound
+  never-over p hp over = omega (arith, start-within farm fits ℓ few p hp)
 
   pub kept-sound : (p : Seat) → IsSeat farm p → (s : Settled) → IsSettled farm p (time ℓ) s → Sound farm ℓ (s .kept)
   kept-sound p hp s a = rw (a .kept) (stage-sound farm fits ℓ few p hp (s .steps))
@@ -124,3 +128,17 @@ module _ (farm : Farm) (fits : farm .bound < farm .seats) (ℓ : ℕ) (few : siz
   kept-agrees p q hp hq s r a b =
       subsets-equal (farm .seats) (s .kept) (r .kept) (kept-sound p hp s a .falling .real) (kept-sound q hq r b .falling .real)
       (kept-inside p q hp hq s r a b) (kept-inside q p hq hp r s b a)
+
+  pub answers-agree : (p q : Seat) → IsSeat farm p → IsSeat farm q → (s r : Settled) → IsSettled farm p (time ℓ) s → IsSettled farm q (time ℓ) r
+      → (s .critical ≡ r .critical) × (s .kept ≡ r .kept) × (s .core ≡ r .core)
+  answers-agree p q hp hq s r a b =
+      let same = kept-agrees p q hp hq s r a b in
+      let f = answer-fixed farm p (time ℓ) s a in
+      let g = answer-fixed farm q (time ℓ) r b in
+      (f .1 ∙ ap (criticalTime farm ℓ) same ∙ sym (g .1), same, f .2 ∙ ap (coreView farm ℓ) same ∙ sym (g .2))
+
+  pub outcomes-agree : (p q : Seat) → IsSeat farm p → IsSeat farm q → (o r : Outcome) → IsOutcome farm p (time ℓ) o → IsOutcome farm q (time ℓ) r
+      → Alike o r
+  outcomes-agree p q hp hq overBound r a b = never-over p hp a
+  outcomes-agree p q hp hq (settled s) overBound a b = never-over q hq b
+  outcomes-agree p q hp hq (settled s) (settled r) a b = answers-agree p q hp hq s r (a .1) (b .1)

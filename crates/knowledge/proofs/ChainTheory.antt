@@ -1,9 +1,8 @@
 -- The chain falls. A seat that a step takes out of the known set has delivered to some seat that was trusted before, one round
 -- later than the new critical time; so the view of each step lies inside the view of the step before.
 -- Assumes nothing.
-use mathlib.Core.Path.{_≡_, refl, sym, _∙_}
+use mathlib.Core.Path.{_≡_, subst}
 use mathlib.Core.Logic.{_⊎_, inl, inr, _≢_, ⊎-elim}
-use mathlib.Core.Bool.{false}
 use Prim.Native.Nat.{ℕ, zero, suc, _+_, _^_, _≤_, _<_}
 use native.Mathlib.Nat.{le-trans, le-of-lt, lt-of-lt-of-le, lt-of-le-of-lt, eq-or-lt-of-le}
 use native.Mathlib.Omega.{arith}
@@ -13,12 +12,12 @@ use Rattle.farm.proofs.SetLaws.{Subset, size-mono, size-misses, subset-equal}
 use Rattle.farm.specs.declared.places.Seat.{Seat}
 use Rattle.farm.specs.declared.places.Time.{Time}
 use Rattle.knowledge.specs.Farm.{Farm, IsSeat}
-use Rattle.knowledge.specs.Views.{view, viewsOf}
+use Rattle.knowledge.specs.Views.{View, view, viewsOf}
 use Rattle.knowledge.specs.Known.{knownIn}
-use Rattle.knowledge.specs.Chain.{stage}
+use Rattle.knowledge.specs.Chain.{stageOf, stage}
 use Rattle.knowledge.specs.Settled.{criticalTime, coreView, next}
 use Rattle.knowledge.proofs.ViewLaws.{view-own, views-of-one}
-use Rattle.knowledge.proofs.ChainLaws.{stage-start, stage-known}
+use Rattle.knowledge.proofs.ChainLaws.{stage-start, stage-known, stage-view}
 use Rattle.knowledge.proofs.ViewTheory.{view-own-past, view-closed, Closed, views-closed}
 use Rattle.knowledge.proofs.KnownTheory.{known-below, known-grows, unknown-delivers}
 use Rattle.knowledge.proofs.CriticalTime.{core-has, core-from}
@@ -104,3 +103,11 @@ core-inside farm fits p ℓ hp within zero q j h =
 core-inside farm fits p ℓ hp within (suc i) q j h =
     core-inside farm fits p ℓ hp within i q j
     (core-shrinks farm fits (ℓ .0) (stage farm p ℓ i .known) (stage-falls farm fits p ℓ hp within i) q j (rw (stage-known farm p ℓ i) at h))
+
+pub stage-inside : (farm : Farm) → farm .bound < farm .seats → (p : Seat) (ℓ : Time) → IsSeat farm p
+    → size (farm .seats) (stage farm p ℓ 0 .known) ≤ farm .bound → (i q j : ℕ)
+    → j < viewsOf farm (stage farm p ℓ i .seats) (stage farm p ℓ i .time) q → j < view farm (p .0) (ℓ .0) q
+unfolding stage stageOf
+stage-inside farm fits p ℓ hp within zero q j h = rw (views-of-one farm (p .0) (ℓ .0) q hp) at h
+stage-inside farm fits p ℓ hp within (suc i) q j h =
+    core-inside farm fits p ℓ hp within i q j (subst (λ (v : View). j < v q) (stage-view farm p ℓ i) h)

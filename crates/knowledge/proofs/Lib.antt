@@ -9,4 +9,5 @@ pub mod StepTheory
 pub mod OutcomeTheory
 pub mod SoundChain
 pub mod Agreement
+pub mod Deadline
 pub mod Promises
