@@ -2,14 +2,14 @@
 -- every clean seat one round after the critical time, so that set is inside every set of every other seat's chain.
 -- Assumes nothing.
 use mathlib.Core.Path.{_≡_, sym, _∙_, ap}
-use mathlib.Core.Logic.{_⊎_, inl, inr, ⊎-elim}
-use mathlib.Core.Bool.{Bool, true, false}
+use mathlib.Core.Logic.{_⊎_, inl, inr}
+use mathlib.Core.Bool.{false}
 use Prim.Native.Nat.{ℕ, zero, suc, _+_, _≤_, _<_}
 use native.Mathlib.Nat.{le-trans, lt-of-lt-of-le, lt-of-le-of-lt, eq-or-lt-of-le}
 use native.Mathlib.Omega.{arith}
 use Rattle.farm.specs.Sets.{Seats, bit, size}
 use Rattle.farm.proofs.Cases.{less-or-not}
-use Rattle.farm.proofs.SetLaws.{Subset, size-mono, size-equal, size-misses, subset-equal, subsets-equal}
+use Rattle.farm.proofs.SetLaws.{Subset, size-equal, size-misses, subset-equal, subsets-equal}
 use Rattle.farm.specs.declared.places.Seat.{Seat}
 use Rattle.knowledge.specs.Farm.{Farm, IsSeat, time, losersBy}
 use Rattle.knowledge.specs.Views.{view}

@@ -1,21 +1,19 @@
 -- The chain: what is computed step by step is the chain of rule 3, stopped where rule 4 stops it.
 -- Assumes nothing.
-use mathlib.Core.Path.{_≡_, refl, sym, _∙_, ap, subst, fun-ext}
-use mathlib.Core.Logic.{_⊎_, inl, inr, _≢_, ⊎-elim}
-use mathlib.Core.Bool.{Bool, true, false}
+use mathlib.Core.Path.{_≡_, refl, sym, _∙_, ap, fun-ext}
+use mathlib.Core.Logic.{_⊎_, inl, inr, _≢_}
 use Prim.Native.Nat.{ℕ, zero, suc, _+_, _-_, _≤_, _<_, zero-le}
-use native.Mathlib.Nat.{not-suc-le-zero, eq-or-lt-of-le}
+use native.Mathlib.Nat.{eq-or-lt-of-le}
 use native.Mathlib.Omega.{arith}
-use lib.Dec.{eqb, leb}
 use borrow.Author.Tests.{eq-eqb, ne-eqb, le-leb, lt-leb}
-use Rattle.farm.specs.Sets.{Seats, size, only}
+use Rattle.farm.specs.Sets.{Seats, size}
 use Rattle.farm.specs.declared.places.Seat.{Seat}
 use Rattle.farm.specs.declared.places.Time.{Time}
 use Rattle.knowledge.specs.Farm.{Farm, IsSeat}
-use Rattle.knowledge.specs.Views.{viewOf, viewsOf}
+use Rattle.knowledge.specs.Views.{viewsOf}
 use Rattle.knowledge.specs.Known.{knownIn, knownOf}
 use Rattle.knowledge.specs.Chain.{stageOf, stage, IsSteps}
-use Rattle.knowledge.specs.Settled.{Settled, Outcome, overBound, settled, IsSettled, IsOutcome, criticalTime, coreView, next, reached, settleFrom, settle, outcomeOf}
+use Rattle.knowledge.specs.Settled.{overBound, settled, IsSettled, IsOutcome, criticalTime, coreView, next, reached, settleFrom, settle}
 use Rattle.knowledge.proofs.ViewLaws.{views-of-one}
 
 -- B₀ is the set known in the seat's own view.

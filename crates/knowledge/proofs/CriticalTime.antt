@@ -1,14 +1,13 @@
 -- The view that follows from a known set within the bound, without signed numbers: the views, at the critical time, of the
 -- seats outside the set. Holds because ℓ − (t + 1 − |B|) is a difference of naturals while |B| is at most t.
 -- Assumes nothing.
-use mathlib.Core.Path.{_≡_, refl, sym, _∙_, ap, ap₂}
+use mathlib.Core.Path.{_≡_, sym, _∙_, ap}
 use mathlib.Core.Logic.{_⊎_, inl, inr}
-use mathlib.Core.Bool.{Bool, true, false, not, cond}
+use mathlib.Core.Bool.{false, not}
 use Prim.Native.Nat.{ℕ, zero, suc, _+_, _-_, _≤_, _<_}
 use native.Mathlib.Nat.{not-suc-le-zero, le-trans}
 use native.Mathlib.Omega.{arith}
-use lib.Dec.{ltb}
-use lib.IntN.{ℤ, pos, negsuc, _-ℤ_}
+use lib.IntN.{pos, negsuc, _-ℤ_}
 use borrow.Author.Tests.{le-ltb, lt-ltb, not-true}
 use Rattle.farm.specs.Sets.{Seats, bit, size, outside}
 use Rattle.farm.proofs.Cases.{less-or-not}
@@ -29,21 +28,26 @@ minus-below : (a b : ℕ) → a < b → pos a -ℤ pos b ≡ negsuc (b - suc a)
 minus-below a zero h = absurd (not-suc-le-zero h)
 minus-below a (suc b) h = rw (lt-ltb a (suc b) h)
 
+-- A time less a delay that is itself a difference.
+delayed : (ℓ d s : ℕ) → s ≤ d → d ≤ ℓ + s → pos ℓ -ℤ (pos d -ℤ pos s) ≡ pos (ℓ + s - d)
+delayed ℓ d s h begun = rw (minus d s h) (minus ℓ (d - s) (omega arith) ∙ ap pos (omega arith))
+
+delayed-below : (ℓ d s : ℕ) → s ≤ d → ℓ + s < d → pos ℓ -ℤ (pos d -ℤ pos s) ≡ negsuc (d - suc (ℓ + s))
+delayed-below ℓ d s h early = rw (minus d s h) (minus-below ℓ (d - s) (omega arith) ∙ ap negsuc (omega arith))
+
 -- ════ The critical time ════
 
 pub critical-time-at : (farm : Farm) (ℓ : ℕ) (known : Seats) → size (farm .seats) known ≤ farm .bound
     → farm .bound + 1 ≤ ℓ + size (farm .seats) known
     → criticalTime farm ℓ known ≡ pos (ℓ + size (farm .seats) known - (farm .bound + 1))
 unfolding criticalTime
-critical-time-at farm ℓ known within begun =
-    rw (minus (farm .bound + 1) (size (farm .seats) known) (omega arith)) (minus ℓ (farm .bound + 1 - size (farm .seats) known) (omega arith) ∙ ap pos (omega arith))
+critical-time-at farm ℓ known within begun = delayed ℓ (farm .bound + 1) (size (farm .seats) known) (omega arith) begun
 
 pub critical-time-below : (farm : Farm) (ℓ : ℕ) (known : Seats) → size (farm .seats) known ≤ farm .bound
     → ℓ + size (farm .seats) known < farm .bound + 1
-    → criticalTime farm ℓ known ≡ negsuc (farm .bound - (ℓ + size (farm .seats) known))
+    → criticalTime farm ℓ known ≡ negsuc (farm .bound + 1 - suc (ℓ + size (farm .seats) known))
 unfolding criticalTime
-critical-time-below farm ℓ known within early =
-    rw (minus (farm .bound + 1) (size (farm .seats) known) (omega arith)) (minus-below ℓ (farm .bound + 1 - size (farm .seats) known) (omega arith) ∙ ap negsuc (omega arith))
+critical-time-below farm ℓ known within early = delayed-below ℓ (farm .bound + 1) (size (farm .seats) known) (omega arith) early
 
 -- ════ The view at the critical time ════
 

@@ -2,17 +2,16 @@
 -- rest of an answer follows from it.
 -- Assumes nothing.
 use mathlib.Core.Path.{_≡_, refl, sym, _∙_, ap}
-use mathlib.Core.Logic.{_⊎_, inl, inr, _↔_}
-use Prim.Native.Nat.{ℕ, zero, suc, _+_, _≤_, _<_}
+use mathlib.Core.Logic.{_⊎_, inl, inr}
+use Prim.Native.Nat.{ℕ, zero, suc, _≤_, _<_}
 use native.Mathlib.Nat.{not-suc-le-zero}
 use native.Mathlib.Omega.{arith}
-use lib.IntN.{ℤ}
-use Rattle.farm.specs.Sets.{Seats, size}
+use Rattle.farm.specs.Sets.{size}
 use Rattle.farm.proofs.Cases.{less-or-not}
 use Rattle.farm.specs.declared.places.Seat.{Seat}
 use Rattle.farm.specs.declared.places.Time.{Time}
 use Rattle.knowledge.specs.Farm.{Farm, IsSeat}
-use Rattle.knowledge.specs.Views.{View, viewsOf}
+use Rattle.knowledge.specs.Views.{viewsOf}
 use Rattle.knowledge.specs.Chain.{stage, IsSteps}
 use Rattle.knowledge.specs.Settled.{Settled, Outcome, overBound, settled, IsSettled, IsOutcome, criticalTime, coreView, next, settle, outcomeOf}
 use Rattle.knowledge.proofs.ChainLaws.{stage-start, stage-known, stage-time, stage-view, still-after, settle-over, settle-outcome}

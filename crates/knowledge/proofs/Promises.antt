@@ -1,23 +1,23 @@
 -- The promises of specs/Promises.antt, each proved under its own name.
 -- Assumes nothing.
-use mathlib.Core.Path.{_≡_, refl, sym, _∙_, ap, subst}
+use mathlib.Core.Path.{_≡_, _∙_, ap}
 use mathlib.Core.Logic.{⊎-elim, Iff·trans}
-use mathlib.Core.Bool.{true, false}
-use Prim.Native.Nat.{ℕ, zero, suc, _+_, _≤_, _<_}
+use mathlib.Core.Bool.{false}
+use Prim.Native.Nat.{zero, suc, _≤_}
 use native.Mathlib.Nat.{lt-of-le-of-lt, lt-of-lt-of-le, le-trans}
 use native.Mathlib.Numerals.{add-one}
 use native.Mathlib.Omega.{arith}
-use Rattle.farm.specs.Sets.{bit, size}
+use borrow.Author.Tests.{lt-ltb, ltb-true}
+use Rattle.farm.specs.Sets.{bit}
 use Rattle.farm.proofs.Cases.{true-or-false}
 use Rattle.farm.proofs.SetLaws.{size-mono}
 use Rattle.farm.specs.declared.places.Seat.{Seat}
 use Rattle.farm.specs.declared.places.Time.{Time}
-use Rattle.knowledge.specs.Farm.{Farm, seat, time, after, place, IsSeat, Arrived, LoserBy, CleanBy, losersBy}
-use Rattle.knowledge.specs.Views.{InView, received, InViews, View, view, viewOf, viewsOf}
-use Rattle.knowledge.specs.Known.{Known, knownIn}
-use Rattle.knowledge.specs.Chain.{stage, IsSteps}
-use Rattle.knowledge.specs.Settled.{Settled, outcomeOf, next, coreView}
-use Rattle.knowledge.specs.Promises.{FewLosersBy, View-is-computed, Views-are-computed, View-holds-earlier-times, Known-is-computed, Known-of-a-place-is-computed, Loser-is-computed, Outcome-is-computed, View-grows, View-is-closed, View-is-past, Known-stays-known, Known-has-lost, Unknown-has-delivered, Chain-shrinks, Chain-falls, Chain-stays-in-view, Steps-are-counted, Answer-stands-still, Agreement, Deadline, Clean-seats-agree, Clean-edits-arrive}
+use Rattle.knowledge.specs.Farm.{Farm, seat, time, after, place, IsSeat, CleanBy, losersBy}
+use Rattle.knowledge.specs.Views.{InView, received, InViews, viewOf, viewsOf}
+use Rattle.knowledge.specs.Known.{knownIn}
+use Rattle.knowledge.specs.Settled.{outcomeOf, next, hasPlace}
+use Rattle.knowledge.specs.Promises.{FewLosersBy, View-is-computed, Views-are-computed, View-holds-earlier-times, Known-is-computed, Known-of-a-place-is-computed, Loser-is-computed, Core-is-computed, Outcome-is-computed, View-grows, View-is-closed, View-is-past, Known-stays-known, Known-has-lost, Unknown-has-delivered, Chain-shrinks, Chain-falls, Chain-stays-in-view, Steps-are-counted, Answer-stands-still, Agreement, Deadline, Clean-seats-agree, Clean-edits-arrive}
 use Rattle.knowledge.proofs.ViewLaws.{in-view-sound, in-view-complete, in-views-sound, in-views-complete, at-most-latest}
 use Rattle.knowledge.proofs.KnownLaws.{known-of-counted, loser-intro, loser-elim}
 use Rattle.knowledge.proofs.ChainLaws.{stage-known}
@@ -59,6 +59,12 @@ loser-is-computed farm ℓ z h = (
       let w = loser-elim farm (ℓ .0) (z .0) h e in
       record { round = time (w .1); receiver = seat (w .0); begun = w .3; done = w .4; real = w .2; lost = w .5 },
 )
+
+pub core-is-computed : Core-is-computed
+unfolding hasPlace
+core-is-computed farm p ℓ s a x =
+    rw (a .core)
+    (λ v. lt-ltb _ _ (in-views-sound farm _ _ x v), λ e. in-views-complete farm _ _ x (ltb-true _ _ e))
 
 pub outcome-is-computed : Outcome-is-computed
 outcome-is-computed farm fits p ℓ hp o = (

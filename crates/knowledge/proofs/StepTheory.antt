@@ -1,11 +1,11 @@
 -- The count of steps: each change takes a seat out of the known set, so B₀ allows |B₀| changes and the next step brings none.
 -- Assumes nothing.
-use mathlib.Core.Path.{_≡_, refl, sym, _∙_}
+use mathlib.Core.Path.{_≡_, sym, _∙_}
 use mathlib.Core.Logic.{_⊎_, inl, inr, _≢_, ⊎-elim}
 use Prim.Native.Nat.{ℕ, zero, suc, _+_, _-_, _≤_, _<_}
 use native.Mathlib.Nat.{not-suc-le-zero, eq-or-lt-of-le, le-refl}
 use native.Mathlib.Omega.{arith}
-use Rattle.farm.specs.Sets.{Seats, size}
+use Rattle.farm.specs.Sets.{size}
 use Rattle.farm.proofs.Cases.{less-or-not, equal-or-not}
 use Rattle.farm.specs.declared.places.Seat.{Seat}
 use Rattle.farm.specs.declared.places.Time.{Time}

@@ -72,6 +72,12 @@ abbrev pub Loser-is-computed : Type 0
 Loser-is-computed =
     (farm : Farm) (ℓ : Time) (z : Seat) → IsSeat farm z → LoserBy farm ℓ z ↔ (bit (losersBy farm ℓ) (z .0) ≡ true)
 
+-- Rule 5: a place is in the core exactly when it is in the view of Sₕ at kₕ, with h the count of steps.
+abbrev pub Core-is-computed : Type 0
+Core-is-computed =
+    (farm : Farm) (p : Seat) (ℓ : Time) (s : Settled) → IsSettled farm p ℓ s → (x : Place)
+    → InViews farm (stage farm p ℓ (s .steps) .seats) (stage farm p ℓ (s .steps) .time) x ↔ (hasPlace (s .core) x ≡ true)
+
 -- Rules 3 to 6: the rules allow one outcome and no other, and it is the computed one.
 abbrev pub Outcome-is-computed : Type 0
 Outcome-is-computed =
