@@ -8,7 +8,7 @@ use Prim.Native.Nat.{ℕ, zero, suc, _+_, _≤_, _<_}
 use native.Mathlib.Nat.{le-trans, lt-of-lt-of-le, lt-of-le-of-lt, eq-or-lt-of-le}
 use native.Mathlib.Omega.{arith}
 use Rattle.farm.specs.Sets.{Seats, bit, size}
-use Rattle.farm.proofs.Cases.{less-or-not}
+use Rattle.farm.proofs.Cases.{false-back, less-or-not}
 use Rattle.farm.proofs.SetLaws.{Subset, size-equal, size-misses, subset-equal, subsets-equal}
 use Rattle.farm.specs.declared.places.Seat.{Seat}
 use Rattle.knowledge.specs.Farm.{Farm, IsSeat, time, losersBy}
@@ -19,7 +19,7 @@ use Rattle.knowledge.specs.Settled.{Settled, Outcome, overBound, settled
 use Rattle.knowledge.specs.Promises.{Alike}
 use Rattle.knowledge.proofs.ViewLaws.{view-receives}
 use Rattle.knowledge.proofs.ChainLaws.{stage-start, stage-known}
-use Rattle.knowledge.proofs.KnownTheory.{not-lost, known-grows, clean-delivers, clean-seen}
+use Rattle.knowledge.proofs.KnownTheory.{known-grows, clean-delivers, clean-seen}
 use Rattle.knowledge.proofs.CriticalTime.{core-has, core-from}
 use Rattle.knowledge.proofs.OutcomeTheory.{answer-fixed}
 use Rattle.knowledge.proofs.SoundChain.{Sound, clean-outside, start-within, stage-sound}
@@ -31,7 +31,7 @@ module _ (farm : Farm) (fits : farm .bound < farm .seats) (ℓ : ℕ) (few : siz
   last-clean : (known : Seats) → Sound farm ℓ known → (g m : ℕ) → g < farm .seats → bit known g ≡ false
       → m + (farm .bound + 1) ≡ ℓ + size (farm .seats) known → suc m ≡ ℓ → bit (losersBy farm (time ℓ)) g ≡ false
   last-clean known s g m hg f at last =
-      not-lost (bit (losersBy farm (time ℓ)) g) (bit known g)
+      false-back (bit (losersBy farm (time ℓ)) g) (bit known g)
       (size-equal (farm .seats) known (losersBy farm (time ℓ)) (s .losers) (omega arith) g hg) f
 
   -- Whoever is outside has delivered to a clean seat in the round after the critical time.
@@ -47,7 +47,7 @@ module _ (farm : Farm) (fits : farm .bound < farm .seats) (ℓ : ℕ) (few : siz
       by (inl last) = clean-delivers farm ℓ r g m x hr hg done (last-clean known s g m hg f at last)
       by (inr early) =
           view-receives farm r g m x hg
-          (not-lost (farm .lost (suc m) g r) (bit known g) (s .heard r g m hr clean hg (omega arith) early) f)
+          (false-back (farm .lost (suc m) g r) (bit known g) (s .heard r g m hr clean hg (omega arith) early) f)
 
   -- At most t seats are losers, so some seat is clean.
   one-clean : (r : ℕ) × (r < farm .seats) × (bit (losersBy farm (time ℓ)) r ≡ false)

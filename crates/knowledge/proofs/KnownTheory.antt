@@ -1,13 +1,12 @@
 -- What a known set says about deliveries: each law takes a lost send from one place to another, by known-elim and known-intro.
 -- Assumes nothing.
-use mathlib.Core.Path.{_≡_, sym, _∙_}
-use mathlib.Core.Logic.{⊎-elim}
-use mathlib.Core.Bool.{Bool, true, false, true≢false}
+use mathlib.Core.Path.{_≡_}
+use mathlib.Core.Bool.{false}
 use Prim.Native.Nat.{ℕ, suc, _^_, _≤_, _<_}
 use native.Mathlib.Nat.{le-trans}
 use native.Mathlib.Omega.{arith}
 use Rattle.farm.specs.Sets.{bit}
-use Rattle.farm.proofs.Cases.{true-or-false}
+use Rattle.farm.proofs.Cases.{false-back}
 use Rattle.farm.proofs.SetLaws.{Subset, collect-below}
 use Rattle.knowledge.specs.Farm.{Farm, time, losersBy}
 use Rattle.knowledge.specs.Views.{View, view}
@@ -38,16 +37,12 @@ losers-grow farm k ℓ h z hz e =
     let w = loser-elim farm k z hz e in
     loser-intro farm ℓ z (w .0) (w .1) hz (w .2) (w .3) (le-trans (w .4) h) (w .5)
 
--- A send whose loss would make true what is false was not lost.
-pub not-lost : (lost told : Bool) → (lost ≡ true → told ≡ true) → told ≡ false → lost ≡ false
-not-lost lost told tells f = ⊎-elim (λ e. absurd (true≢false (sym (tells e) ∙ f))) (λ e. e) (true-or-false lost)
-
 -- Who is not known in a closed view has delivered to each of its places.
 pub unknown-delivers : (farm : Farm) (v : View) → Closed farm v → (q g j x : ℕ) → q < farm .seats → g < farm .seats
     → suc j < v q → bit (knownIn farm v) g ≡ false → view farm g j x ≤ v x
 unknown-delivers farm v closed q g j x hq hg seen f =
     let arrived : farm .lost (suc j) g q ≡ false =
-    not-lost (farm .lost (suc j) g q) (bit (knownIn farm v) g) (known-intro farm v g q (suc j) hg hq (omega arith) seen) f in
+    false-back (farm .lost (suc j) g q) (bit (knownIn farm v) g) (known-intro farm v g q (suc j) hg hq (omega arith) seen) f in
     le-trans (view-receives farm q g j x hg arrived) (closed q (suc j) seen x)
 
 -- A clean seat delivers to everyone.
@@ -55,7 +50,7 @@ pub clean-delivers : (farm : Farm) (ℓ q g j x : ℕ) → q < farm .seats → g
     → bit (losersBy farm (time ℓ)) g ≡ false → view farm g j x ≤ view farm q (suc j) x
 clean-delivers farm ℓ q g j x hq hg done f =
     let arrived : farm .lost (suc j) g q ≡ false =
-    not-lost (farm .lost (suc j) g q) (bit (losersBy farm (time ℓ)) g) (loser-intro farm ℓ g q (suc j) hg hq (omega arith) done) f in
+    false-back (farm .lost (suc j) g q) (bit (losersBy farm (time ℓ)) g) (loser-intro farm ℓ g q (suc j) hg hq (omega arith) done) f in
     view-receives farm q g j x hg arrived
 
 -- So everyone's view has the views of a clean seat, the last round apart.

@@ -8,6 +8,7 @@ use Prim.Native.Nat.{ℕ, zero, suc, _+_, _≤_, _<_}
 use native.Mathlib.Nat.{le-trans, lt-of-lt-of-le}
 use native.Mathlib.Omega.{arith}
 use Rattle.farm.specs.Sets.{Seats, bit, size}
+use Rattle.farm.proofs.Cases.{false-back}
 use Rattle.farm.proofs.SetLaws.{Subset, size-mono}
 use Rattle.farm.specs.declared.places.Seat.{Seat}
 use Rattle.knowledge.specs.Farm.{Farm, IsSeat, time, losersBy}
@@ -18,7 +19,7 @@ use Rattle.knowledge.specs.Settled.{coreView, next}
 use Rattle.knowledge.proofs.ViewLaws.{view-own}
 use Rattle.knowledge.proofs.KnownLaws.{known-intro}
 use Rattle.knowledge.proofs.ChainLaws.{stage-start, stage-known}
-use Rattle.knowledge.proofs.KnownTheory.{not-lost, known-lost, clean-seen}
+use Rattle.knowledge.proofs.KnownTheory.{known-lost, clean-seen}
 use Rattle.knowledge.proofs.CriticalTime.{core-has}
 use Rattle.knowledge.proofs.ChainTheory.{Falling, change-falls, next-falls, stage-falls}
 
@@ -33,7 +34,7 @@ pub record Sound (farm : Farm) (ℓ : ℕ) (known : Seats) : Type 0 where
 -- A clean seat is outside.
 pub clean-outside : (farm : Farm) (ℓ : ℕ) (known : Seats) → Sound farm ℓ known → (r : ℕ) → r < farm .seats
     → bit (losersBy farm (time ℓ)) r ≡ false → bit known r ≡ false
-clean-outside farm ℓ known s r hr clean = not-lost (bit known r) (bit (losersBy farm (time ℓ)) r) (s .losers r hr) clean
+clean-outside farm ℓ known s r hr clean = false-back (bit known r) (bit (losersBy farm (time ℓ)) r) (s .losers r hr) clean
 
 -- ════ Every set of a chain is sound ════
 
