@@ -8,7 +8,7 @@ use native.Mathlib.Nat.{div-eq-of-lt, add-mul-div-right, add-div-right, eq-or-lt
 use native.Mathlib.Omega.{arith}
 use lib.Dec.{eqb, lit<}
 use lib.Pow.{pow-pos, pow-add, mod-pow-add}
-use Rattle.farm.proofs.Cases.{or-left, or-right, or-elim, true-or-false}
+use Rattle.farm.proofs.Cases.{or-left, or-right, or-elim, true-or-false, true-together}
 use Rattle.farm.specs.Sets.{Seats, bit, any, collect, size, outside, only}
 
 -- ════ Tests over a range ════
@@ -165,6 +165,19 @@ size-misses (suc n) set h = by (bit set n) refl h (size-misses n set)
         → (size n set < n → (q : ℕ) × (q < n) × (bit set q ≡ false)) → (q : ℕ) × (q < suc n) × (bit set q ≡ false)
     by true e k below = let w = below (omega arith) in (w .0, omega (arith, w .1), w .2)
     by false e k below = (n, omega arith, e)
+
+-- ════ Parts of sets ════
+
+-- Every seat of the one set is in the other.
+abbrev pub Subset : ℕ → Seats → Seats → Type 0
+Subset n a b = (q : ℕ) → q < n → bit a q ≡ true → bit b q ≡ true
+
+pub subsets-equal : (n a b : ℕ) → a < 2 ^ n → b < 2 ^ n → Subset n a b → Subset n b a → a ≡ b
+subsets-equal n a b ha hb to from = bits-equal n a b ha hb (λ q l. true-together (bit a q) (bit b q) (to q l) (from q l))
+
+-- A subset that is no smaller is the whole set.
+pub subset-equal : (n a b : ℕ) → a < 2 ^ n → b < 2 ^ n → Subset n a b → size n b ≤ size n a → a ≡ b
+subset-equal n a b ha hb inside s = subsets-equal n a b ha hb inside (size-equal n a b inside s)
 
 -- ════ Outside, and one alone ════
 

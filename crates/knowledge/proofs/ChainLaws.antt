@@ -1,22 +1,19 @@
 -- The chain: what is computed step by step is the chain of rule 3, stopped where rule 4 stops it.
 -- Assumes nothing.
-use mathlib.Core.Path.{_≡_, refl, sym, _∙_, ap, subst, fun-ext}
-use mathlib.Core.Logic.{_⊎_, inl, inr, _≢_, ⊎-elim}
-use mathlib.Core.Bool.{Bool, true, false}
+use mathlib.Core.Path.{_≡_, refl, sym, _∙_, ap, fun-ext}
+use mathlib.Core.Logic.{_⊎_, inl, inr, _≢_}
 use Prim.Native.Nat.{ℕ, zero, suc, _+_, _-_, _≤_, _<_, zero-le}
-use native.Mathlib.Nat.{not-suc-le-zero, eq-or-lt-of-le}
+use native.Mathlib.Nat.{eq-or-lt-of-le}
 use native.Mathlib.Omega.{arith}
-use lib.Dec.{eqb, leb}
 use borrow.Author.Tests.{eq-eqb, ne-eqb, le-leb, lt-leb}
-use Rattle.farm.specs.Sets.{Seats, size, only}
-use Rattle.farm.proofs.Cases.{less-or-not}
+use Rattle.farm.specs.Sets.{Seats, size}
 use Rattle.farm.specs.declared.places.Seat.{Seat}
 use Rattle.farm.specs.declared.places.Time.{Time}
 use Rattle.knowledge.specs.Farm.{Farm, IsSeat}
-use Rattle.knowledge.specs.Views.{viewOf, viewsOf}
+use Rattle.knowledge.specs.Views.{viewsOf}
 use Rattle.knowledge.specs.Known.{knownIn, knownOf}
 use Rattle.knowledge.specs.Chain.{stageOf, stage, IsSteps}
-use Rattle.knowledge.specs.Settled.{Settled, Outcome, overBound, settled, IsSettled, IsOutcome, criticalTime, coreView, next, reached, settleFrom, settle, outcomeOf}
+use Rattle.knowledge.specs.Settled.{overBound, settled, IsSettled, IsOutcome, criticalTime, coreView, next, reached, settleFrom, settle}
 use Rattle.knowledge.proofs.ViewLaws.{views-of-one}
 
 -- B₀ is the set known in the seat's own view.
@@ -29,11 +26,11 @@ pub stage-known : (farm : Farm) (p : Seat) (ℓ : Time) (i : ℕ) → stage farm
 unfolding stage stageOf next coreView criticalTime
 stage-known farm p ℓ i = refl
 
-stage-time : (farm : Farm) (p : Seat) (ℓ : Time) (i : ℕ) → stage farm p ℓ (suc i) .time ≡ criticalTime farm (ℓ .0) (stage farm p ℓ i .known)
+pub stage-time : (farm : Farm) (p : Seat) (ℓ : Time) (i : ℕ) → stage farm p ℓ (suc i) .time ≡ criticalTime farm (ℓ .0) (stage farm p ℓ i .known)
 unfolding stage stageOf criticalTime
 stage-time farm p ℓ i = refl
 
-stage-view : (farm : Farm) (p : Seat) (ℓ : Time) (i : ℕ)
+pub stage-view : (farm : Farm) (p : Seat) (ℓ : Time) (i : ℕ)
     → viewsOf farm (stage farm p ℓ (suc i) .seats) (stage farm p ℓ (suc i) .time) ≡ coreView farm (ℓ .0) (stage farm p ℓ i .known)
 unfolding stage stageOf coreView criticalTime
 stage-view farm p ℓ i = refl
@@ -99,15 +96,11 @@ reached-settled farm p ℓ h steps = record {
   core = sym (stage-view farm p ℓ h);
 }
 
--- Rules 5 and 6 together, for the seat's own known set.
+-- Within the bound, the computed outcome is the one of the rules once the chain stands still early enough.
 pub settle-outcome : (farm : Farm) (p : Seat) (ℓ : Time) (h : ℕ) → IsSteps farm p ℓ (suc h)
-    → h ≤ size (farm .seats) (stage farm p ℓ 0 .known) → IsOutcome farm p ℓ (settle farm (ℓ .0) (stage farm p ℓ 0 .known))
-settle-outcome farm p ℓ h steps high = by (less-or-not (farm .bound) (size (farm .seats) (stage farm p ℓ 0 .known)))
-  where
-    by : (farm .bound < size (farm .seats) (stage farm p ℓ 0 .known)) ⊎ (size (farm .seats) (stage farm p ℓ 0 .known) ≤ farm .bound)
-        → IsOutcome farm p ℓ (settle farm (ℓ .0) (stage farm p ℓ 0 .known))
-    by (inl over) = rw (settle-over farm (ℓ .0) _ over) over
-    by (inr within) =
-        rw
-        (settle-within farm (ℓ .0) _ within, settle-reaches farm p ℓ h (size (farm .seats) (stage farm p ℓ 0 .known)) 0 steps zero-le (omega arith))
-        (within, reached-settled farm p ℓ h steps)
+    → h ≤ size (farm .seats) (stage farm p ℓ 0 .known) → size (farm .seats) (stage farm p ℓ 0 .known) ≤ farm .bound
+    → IsOutcome farm p ℓ (settle farm (ℓ .0) (stage farm p ℓ 0 .known))
+settle-outcome farm p ℓ h steps high within =
+    rw
+    (settle-within farm (ℓ .0) _ within, settle-reaches farm p ℓ h (size (farm .seats) (stage farm p ℓ 0 .known)) 0 steps zero-le (omega arith))
+    (within, reached-settled farm p ℓ h steps)

@@ -1,19 +1,18 @@
 -- Known sets and losers: the words of document 01 and the bits say the same.
 -- Assumes nothing.
-use mathlib.Core.Path.{_≡_, refl, sym, _∙_, ap}
+use mathlib.Core.Path.{_≡_, sym, _∙_}
 use mathlib.Core.Logic.{_↔_}
-use mathlib.Core.Bool.{Bool, true, false, _&&_}
+use mathlib.Core.Bool.{true, _&&_}
 use Prim.Native.Nat.{ℕ, zero, suc, _≤_, _<_}
 use native.Mathlib.Nat.{not-suc-le-zero}
 use native.Mathlib.Omega.{arith}
 use lib.Dec.{ltb}
 use borrow.Author.Tests.{lt-ltb, ltb-true}
-use Rattle.farm.specs.Sets.{Seats, bit, any, collect}
+use Rattle.farm.specs.Sets.{bit}
 use Rattle.farm.proofs.Cases.{and-intro, and-elim}
 use Rattle.farm.proofs.SetLaws.{any-intro, any-elim, bit-collect}
 use Rattle.farm.specs.declared.places.Seat.{Seat}
-use Rattle.farm.specs.declared.places.Time.{Time}
-use Rattle.knowledge.specs.Farm.{Farm, Place, IsSeat, Lost, LoserBy, seat, time, place, losesIn, losesBy, losersBy}
+use Rattle.knowledge.specs.Farm.{Farm, Place, IsSeat, seat, time, place, losesIn, losesBy, losersBy}
 use Rattle.knowledge.specs.Views.{View}
 use Rattle.knowledge.specs.Known.{Known, missedAt, missed, knownIn}
 

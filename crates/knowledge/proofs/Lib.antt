@@ -1,4 +1,13 @@
 pub mod ViewLaws
 pub mod KnownLaws
 pub mod ChainLaws
+pub mod ViewTheory
+pub mod KnownTheory
+pub mod CriticalTime
+pub mod ChainTheory
+pub mod StepTheory
+pub mod OutcomeTheory
+pub mod SoundChain
+pub mod Agreement
+pub mod Deadline
 pub mod Promises

@@ -2,19 +2,19 @@
 -- Assumes nothing.
 use mathlib.Core.Path.{_≡_, refl, sym, _∙_, ap, subst₂}
 use mathlib.Core.Logic.{_⊎_, inl, inr, ⊎-elim, _↔_}
-use mathlib.Core.Bool.{Bool, true, false, cond, not, true≢false}
+use mathlib.Core.Bool.{Bool, true, false, cond, not}
 use Prim.Native.Nat.{ℕ, zero, suc, _≤_, _<_, max, zero-le}
 use native.Mathlib.Nat.{not-suc-le-zero, le-max-left, le-max-right, le-trans, le-antisymm, lt-of-lt-of-le, eq-or-lt-of-le, le-refl}
 use native.Mathlib.Omega.{arith}
 use lib.Dec.{eqb}
 use lib.IntN.{ℤ, pos, negsuc}
-use borrow.Author.Tests.{eq-eqb, eqb-true, eqb-false, not-true}
+use borrow.Author.Tests.{eq-eqb, eqb-true, not-true}
 use Rattle.farm.specs.Sets.{Seats, bit, only}
-use Rattle.farm.proofs.Cases.{less-or-not, true-or-false}
+use Rattle.farm.proofs.Cases.{less-or-not}
 use Rattle.farm.proofs.SetLaws.{bit-only}
 use Rattle.farm.specs.declared.places.Seat.{Seat}
 use Rattle.farm.specs.declared.places.Time.{Time}
-use Rattle.knowledge.specs.Farm.{Farm, Place, IsSeat, Arrived, seat, time, place, after}
+use Rattle.knowledge.specs.Farm.{Farm, Place, seat, time, place}
 use Rattle.knowledge.specs.Views.{InView, itself, remembered, received, InViews, View, upTo, joined, view, viewOf, viewsOf, latest, AtMost}
 
 -- ════ Joined views ════
@@ -61,7 +61,7 @@ up-to-same : (p k : ℕ) → upTo p k p ≡ suc k
 unfolding upTo
 up-to-same p k = rw (eq-eqb p p refl)
 
-up-to-from : (p k q j : ℕ) → j < upTo p k q → (q ≡ p) × (j ≤ k)
+pub up-to-from : (p k q j : ℕ) → j < upTo p k q → (q ≡ p) × (j ≤ k)
 unfolding upTo
 up-to-from p k q j h = by (eqb q p) refl h
   where
@@ -90,7 +90,7 @@ view-receives farm p s k q h e =
     (le-max-right _ _)
 
 -- Nothing else is in it.
-abbrev FromBefore : Farm → (p k q j : ℕ) → Type 0
+abbrev pub FromBefore : Farm → (p k q j : ℕ) → Type 0
 FromBefore farm p k q j =
     ((q ≡ p) × (j ≡ suc k))
     ⊎ (j < view farm p k q)
