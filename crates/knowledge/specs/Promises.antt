@@ -165,14 +165,14 @@ Deadline =
 
 -- ════ Condition 3, of a whole record in which at most t seats ever lose a send ════
 
--- "At each time, all seats that never lose one get the same critical time, kept set and core under condition 2's rule."
+-- First part: whatever the rules answer two seats that never lose a send, at any time of the record, is alike.
 abbrev pub Clean-seats-agree : Type 0
 Clean-seats-agree =
     (farm : Farm) → BoundFits farm → FewLosersBy farm (time (farm .rounds))
     → (ℓ : Time) → ℓ .0 ≤ farm .rounds → (p q : Seat) → IsSeat farm p → IsSeat farm q → Clean farm p → Clean farm q
     → (o r : Outcome) → IsOutcome farm p ℓ o → IsOutcome farm q ℓ r → Alike o r
 
--- "An edit within such a seat's view at time e is in all of their cores at every time from e + t + 1 to the record's end."
+-- Second part: a place, such as an edit's, that one of them sees at time e is in all their cores from e + t + 1 to the end.
 abbrev pub Clean-edits-arrive : Type 0
 Clean-edits-arrive =
     (farm : Farm) → BoundFits farm → FewLosersBy farm (time (farm .rounds))

@@ -2,13 +2,13 @@
 use mathlib.Core.Path.{_≡_}
 use mathlib.Core.Bool.{Bool, true, cond, not}
 use mathlib.Core.List.{List, [], _∷_, _++_}
-use Prim.Native.Nat.{ℕ, zero, suc, _≤_, _<_, max}
+use Prim.Native.Nat.{ℕ, zero, suc, _≤_, max}
 use lib.Dec.{eqb}
 use lib.IntN.{ℤ, pos, negsuc}
 use Rattle.farm.specs.Sets.{Seats, bit}
 use Rattle.farm.specs.declared.places.Seat.{Seat}
 use Rattle.farm.specs.declared.places.Time.{Time}
-use Rattle.knowledge.specs.Farm.{Farm, Place, IsSeat, Arrived, Lost, seat, time, place, after}
+use Rattle.knowledge.specs.Farm.{Farm, Place, IsSeat, Arrived, time, after}
 
 -- ════ Rule 1 in its own words: the view as a set of places ════
 
