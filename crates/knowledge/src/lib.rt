@@ -1,2 +1,2 @@
-// What each seat knows of the farm, from the losses alone: views, known sets and the construction
-// that settles the core. Document 01, "Views and the core". Nothing here knows bytes or edits.
+// The rules of document 01, "Views and the core", and the theory of them: see specs/ and proofs/. The code that
+// computes them is the crate construction. Nothing here knows bytes or edits.

@@ -1,0 +1,50 @@
+-- Every public function of the crate states its outcome completely.
+-- Assumes nothing.
+use mathlib.Core.Path.{sym, _∙_}
+use Rattle.farm.proofs.Complete.{Complete, by-facts}
+use Rattle.construction.proofs.views.views_at as views-at
+use Rattle.construction.proofs.views.view_of as view-of
+use Rattle.construction.proofs.views.view_of_set as view-of-set
+use Rattle.construction.proofs.known.known_in as known-in
+use Rattle.construction.proofs.known.known_of as known-of
+use Rattle.construction.proofs.losers.losers_by as losers-by
+use Rattle.construction.proofs.losers.is_loser as is-loser
+use Rattle.construction.proofs.settled.settle as settle
+use Rattle.construction.proofs.latest.latest_times as latest-times
+use Rattle.construction.proofs.latest.latest_view as latest-view
+
+-- ════ Views ════
+
+pub views-at-complete : Complete views-at.ended (λ M. views-at.clauses {M = M})
+views-at-complete M 𝓤 H A mem run κs a g r s v w = by-facts M 𝓤 _ _ _ (λ p q. (λ i. record { of = (p ∙ sym q) i }, cc))
+
+pub view-of-complete : Complete view-of.ended (λ M. view-of.clauses {M = M})
+view-of-complete M 𝓤 H A mem run κs a g r s v w = by-facts M 𝓤 _ _ _ (λ p q. (λ i. record { of = (p ∙ sym q) i }, cc))
+
+pub view-of-set-complete : Complete view-of-set.ended (λ M. view-of-set.clauses {M = M})
+view-of-set-complete M 𝓤 H A mem run κs a g r s v w = by-facts M 𝓤 _ _ _ (λ p q. (λ i. record { of = (p ∙ sym q) i }, cc))
+
+-- ════ Known sets and losers ════
+
+pub known-in-complete : Complete known-in.ended (λ M. known-in.clauses {M = M})
+known-in-complete M 𝓤 H A mem run κs a g r s v w = by-facts M 𝓤 _ _ _ (λ p q. (cc, cc))
+
+pub known-of-complete : Complete known-of.ended (λ M. known-of.clauses {M = M})
+known-of-complete M 𝓤 H A mem run κs a g r s v w = by-facts M 𝓤 _ _ _ (λ p q. (cc, cc))
+
+pub losers-by-complete : Complete losers-by.ended (λ M. losers-by.clauses {M = M})
+losers-by-complete M 𝓤 H A mem run κs a g r s v w = by-facts M 𝓤 _ _ _ (λ p q. (cc, cc))
+
+pub is-loser-complete : Complete is-loser.ended (λ M. is-loser.clauses {M = M})
+is-loser-complete M 𝓤 H A mem run κs a g r s v w = by-facts M 𝓤 _ _ _ (λ p q. (cc, cc))
+
+-- ════ The settled answer ════
+
+pub settle-complete : Complete settle.ended (λ M. settle.clauses {M = M})
+settle-complete M 𝓤 H A mem run κs a g r s v w = by-facts M 𝓤 _ _ _ (λ p q. (cc, cc))
+
+pub latest-times-complete : Complete latest-times.ended (λ M. latest-times.clauses {M = M})
+latest-times-complete M 𝓤 H A mem run κs a g r s v w = by-facts M 𝓤 _ _ _ (λ p q. (λ i. record { times = (p ∙ sym q) i }, cc))
+
+pub latest-view-complete : Complete latest-view.ended (λ M. latest-view.clauses {M = M})
+latest-view-complete M 𝓤 H A mem run κs a g r s v w = by-facts M 𝓤 _ _ _ (λ p q. (λ i. record { times = (p ∙ sym q) i }, cc))

@@ -1,0 +1,8 @@
+pub mod SetSteps
+pub mod CountLaws
+pub mod ViewSteps
+pub mod KnownSteps
+pub mod SettleSteps
+pub mod LatestSteps
+pub mod EarlyLaws
+pub mod CompleteLaws

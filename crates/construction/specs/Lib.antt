@@ -1,0 +1,3 @@
+-- How the code holds views, sets and answers, beside the rules of knowledge.
+pub mod Counts
+pub mod Answers

@@ -1,0 +1,58 @@
+// Losers and clean seats: who lost a send in any of the rounds up to a time, or of the whole record.
+use crate::losses::was_lost;
+use crate::sets::with_seat;
+use crate::sizes::Sizes;
+use farm::places::Seat;
+use farm::places::Time;
+ghost use mathlib.Core.Path.{_≡_};
+ghost use Prim.Native.Nat.{suc, _≤_, _<_};
+ghost use Rattle.farm.specs.Limits.{limits};
+ghost use Rattle.farm.specs.Sets.{bit};
+ghost use Rattle.knowledge.specs.Farm.{losesIn, losesBy, losersBy, losers};
+ghost use Rattle.construction.specs.Counts.{farmFor};
+
+// Whether a send of z was lost in the round that begins at the time.
+fn loses_in(losses: &[u16], sizes: Sizes, begun: Time, z: Seat) -> bool
+    ensures { λ r. ⌜ r ≡ losesIn (farmFor sizes (now (losses .entry))) (suc (begun .0)) (z .0) ⌝ }
+{
+    let seats = sizes.seats;
+    for q in 0..seats {
+        if was_lost(losses, sizes.seats, begun, z, Seat(q)) {
+            return true;
+        }
+    }
+    false
+}
+
+// Whether a send of z was lost in the rounds up to the time.
+fn loses_by(losses: &[u16], sizes: Sizes, time: Time, z: Seat) -> bool
+    ensures { λ r. ⌜ r ≡ losesBy (farmFor sizes (now (losses .entry))) (time .0) (z .0) ⌝ }
+{
+    for k in 0..time.0 {
+        if loses_in(losses, sizes, Time(k), z) {
+            return true;
+        }
+    }
+    false
+}
+
+// The losers by a time.
+pub fn losers_by(losses: &[u16], sizes: Sizes, time: Time) -> u16
+    requires { ⌜ sizes .seats ≤ limits .mostSeats ⌝ }
+    ensures { λ r. ⌜ r ≡ losersBy (farmFor sizes (now (losses .entry))) time ⌝ }
+{
+    let mut set: u16 = 0;
+    let seats = sizes.seats;
+    for z in 0..seats {
+        set = with_seat(set, Seat(z), loses_by(losses, sizes, time, Seat(z)));
+    }
+    set
+}
+
+// Whether a seat is a loser of the whole record; every other seat is clean.
+pub fn is_loser(losses: &[u16], sizes: Sizes, seat: Seat) -> bool
+    requires { ⌜ seat .0 < sizes .seats ⌝ }
+    ensures { λ r. ⌜ r ≡ bit (losers (farmFor sizes (now (losses .entry)))) (seat .0) ⌝ }
+{
+    loses_by(losses, sizes, Time(sizes.rounds), seat)
+}
