@@ -6,4 +6,17 @@ pub mod Header
 pub mod Losses
 pub mod Edits
 pub mod Record
+pub mod Cursors
+pub mod Tables
+pub mod Filling
 pub mod Document
+pub mod Good
+pub mod Widths
+pub mod Columns
+pub mod Writing
+pub mod Faults
+pub mod ListFaults
+pub mod Answers
+pub mod Placing
+pub mod Longest
+pub mod Promises

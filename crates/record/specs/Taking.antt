@@ -1,8 +1,13 @@
 -- Taking things from the front of the bytes, one after the other. The first refusal ends it and goes up unchanged.
 use mathlib.Core.List.{List}
 use mathlib.Core.Bool.{Bool, true, false}
-use Prim.Native.Nat.{ℕ}
+use Prim.Native.Nat.{ℕ, _<_}
+use lib.ListN.{getD}
 use Rattle.farm.specs.declared.refusals.Refusal.{Refusal}
+
+-- A byte string is a list of numbers below 256.
+abbrev pub IsBytes : List ℕ → Type 0
+IsBytes bytes = (i : ℕ) → getD bytes i 0 < 256
 
 -- A value with the rest of the bytes, or a refusal.
 pub data Taken (A : Type 0) : Type 0 where

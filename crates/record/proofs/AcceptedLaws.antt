@@ -1,0 +1,148 @@
+-- What the answers of the judging code tell, what is known of accepted lists, and what the answers about length and room mean.
+-- Assumes nothing.
+use mathlib.Core.Path.{_≡_, refl, sym, _∙_, ap}
+use mathlib.Core.Bool.{true}
+use mathlib.Core.List.{List, [], _∷_}
+use Prim.Native.Nat.{ℕ, zero, suc, _+_, _^_, _<_, _≤_}
+use native.Mathlib.Nat.{zero-add}
+use native.Mathlib.Omega.{arith}
+use lib.ListN.{length, getD, length-append}
+use borrow.Author.Tests.{lt-leb, le-leb}
+use Rattle.farm.specs.Limits.{Limits, limits}
+use Rattle.farm.specs.declared.refusals.Refusal.{Refusal}
+use Rattle.farm.specs.declared.refusals.Refusal.the-variants.{OutOfRange, BadLengths, NoRoom}
+use Rattle.record.specs.declared.edits.Edit.{Edit}
+use Rattle.record.specs.declared.edits.Before.{Before}
+use Rattle.record.specs.declared.edits.Before.the-variants.{Nothing, This}
+use Rattle.record.specs.declared.judging.Judged.the-variants.{Accepted, Refused}
+use Rattle.record.specs.declared.writing.Written.{Written}
+use Rattle.record.specs.declared.writing.Written.the-variants.{Length, Refused as NotWritten}
+use Rattle.record.specs.Header.{headerBytes}
+use Rattle.record.specs.Losses.{lossBytes}
+use Rattle.record.specs.Edits.{follows, editsBytes}
+use Rattle.record.specs.Record.{Reading, good, bad, bytesOf}
+use Rattle.record.specs.Good.{goodEdit, goodEdits}
+use Rattle.record.specs.Tables.{Tables, cellsOf}
+use Rattle.record.specs.Writing.{Verdict, accepted, faulty, headerFrom, editsIn, judgedLists, recordFrom, judged, checkedLists, count, unwritten, needed, neededBy, answered, writtenTo, bufferWith, bufferAfter}
+use Rattle.record.specs.Placing.{Put}
+use Rattle.record.specs.Answers.{judgedIn, writtenIn}
+use Rattle.record.proofs.GoodLaws.{and3-elim, HeaderFacts, header-facts, edit-facts, record-facts}
+use Rattle.record.proofs.ColumnLaws.{columns-from-edits}
+use Rattle.record.proofs.WritingLaws.{unless-accepted, fitting-elim, Fitting, lists-accepted}
+use Rattle.record.proofs.LengthLaws.{record-length}
+use Rattle.record.proofs.PlacingLaws.{placed-front}
+
+-- ════ The judging code's answers ════
+
+pub answer-accepted : (v : Verdict) → judgedIn v ≡ Accepted → v ≡ accepted
+unfolding judgedIn
+answer-accepted accepted e = refl
+answer-accepted (faulty r) e = let z : _≡_ {A = ℕ} 0 1 = cc in absurd (omega arith)
+
+pub answer-refused : (v : Verdict) (r : Refusal) → judgedIn v ≡ Refused r → v ≡ faulty r
+unfolding judgedIn
+answer-refused accepted r e = let z : _≡_ {A = ℕ} 0 1 = cc in absurd (omega arith)
+answer-refused (faulty q) r e = let same : q ≡ r = cc in ap faulty same
+
+-- ════ Accepted lists ════
+
+good-cells : (L : Limits) (n R : ℕ) (before : Before) (edits : List Edit) → goodEdits L n R before edits ≡ true
+    → (i : ℕ) → getD (cellsOf edits) i 0 ≤ L .largestCell
+unfolding goodEdits cellsOf
+good-cells L n R before [] g i = omega arith
+good-cells L n R before (e ∷ edits) g zero =
+    edit-facts L n R e (and3-elim (goodEdit L n R e) (follows before e) (goodEdits L n R (This e) edits) g .0) .cell
+good-cells L n R before (e ∷ edits) g (suc i) =
+    good-cells L n R (This e) edits (and3-elim (goodEdit L n R e) (follows before e) (goodEdits L n R (This e) edits) g .2) i
+
+module _ (n t R : ℕ) (lists : Tables) where
+  abbrev pub sizeOf : ℕ
+  sizeOf = length (bytesOf limits (recordFrom n t R lists))
+
+  -- Header, losses and edits, one after the other.
+  pub size-parts : sizeOf
+      ≡ length (headerBytes limits (headerFrom n t R lists)) + length (lossBytes limits (lists .losses)) + length (editsBytes limits (editsIn lists))
+  unfolding bytesOf recordFrom
+  size-parts = simp length-append
+
+  module _ (L : Limits) (v : judgedLists L n t R lists ≡ accepted) where
+    pub checked-good : checkedLists L n t R lists ≡ good (recordFrom n t R lists)
+    unfolding checkedLists judged
+    checked-good = rw v
+
+  module _ (v : judgedLists limits n t R lists ≡ accepted) where
+    pub accepted-header : HeaderFacts limits (headerFrom n t R lists)
+    unfolding judgedLists
+    accepted-header = header-facts limits _ (unless-accepted _ OutOfRange _ v .0)
+
+    pub accepted-lengths : Fitting n R lists
+    unfolding judgedLists
+    accepted-lengths = fitting-elim n R lists (unless-accepted _ BadLengths _ (unless-accepted _ OutOfRange _ v .1) .0)
+
+    pub accepted-cells : (i : ℕ) → getD (lists .cells) i 0 < 128 ^ 3
+    unfolding recordFrom
+    accepted-cells i =
+        let f = accepted-lengths in
+        let same = columns-from-edits (lists .seats) (lists .times) (lists .cells) (lists .changes) (f .times) (f .cells) (f .changes) .cells-same in
+        let sound = record-facts limits _ (lists-accepted limits n t R lists _ (checked-good limits v) .sound) .edits in
+        let small = rw same at (good-cells limits n R Nothing (editsIn lists) sound i) in
+        omega arith
+
+    pub accepted-size : sizeOf ≤ 4990
+    accepted-size = record-length (recordFrom n t R lists) (lists-accepted limits n t R lists _ (checked-good limits v) .sound)
+
+-- ════ The length that is needed ════
+
+module _ (L : Limits) (n t R : ℕ) (lists : Tables) where
+  pub needed-refused : (r : Refusal) → judgedLists L n t R lists ≡ faulty r → neededBy L n t R lists ≡ unwritten r
+  unfolding neededBy needed checkedLists judged
+  needed-refused r e = rw e
+
+  pub needed-accepted : judgedLists L n t R lists ≡ accepted → neededBy L n t R lists ≡ count (length (bytesOf L (recordFrom n t R lists)))
+  unfolding neededBy needed checkedLists judged
+  needed-accepted e = rw e
+
+-- ════ What writing answers and leaves ════
+
+-- An outcome: the answer, and the buffer at the end.
+pub record Outcome (L : Limits) (n t R : ℕ) (lists : Tables) (old : List ℕ) (answer : Written) (buffer : List ℕ) : Type 0 where
+  pub answers : answer ≡ writtenIn (writtenTo L n t R lists (length old))
+  pub leaves : buffer ≡ bufferAfter L n t R lists old
+
+module _ (L : Limits) (n t R : ℕ) (lists : Tables) where
+  pub refused-outcome : (w : Written) (r : Refusal) (old : List ℕ) → w ≡ writtenIn (neededBy L n t R lists) → w ≡ NotWritten r
+      → Outcome L n t R lists old w old
+  unfolding writtenIn neededBy needed writtenTo answered bufferAfter bufferWith
+  refused-outcome w r old e f = by (checkedLists L n t R lists) refl (sym f ∙ e)
+    where
+      by : (x : Reading) → checkedLists L n t R lists ≡ x → NotWritten r ≡ writtenIn (needed L x) → Outcome L n t R lists old w old
+      by (good s) p q = let z : _≡_ {A = ℕ} 0 1 = cc in absurd (omega arith)
+      by (bad s) p q = record { answers = f ∙ rw p q; leaves = rw p }
+
+  pub counted-accepted : (k : ℕ) → writtenIn (neededBy L n t R lists) ≡ Length k
+      → (judgedLists L n t R lists ≡ accepted) × (k ≡ length (bytesOf L (recordFrom n t R lists)))
+  unfolding writtenIn neededBy needed checkedLists judged
+  counted-accepted k e = by (judgedLists L n t R lists) refl e
+    where
+      by : (v : Verdict) → judgedLists L n t R lists ≡ v → writtenIn (needed L (judged (recordFrom n t R lists) v)) ≡ Length k
+          → (judgedLists L n t R lists ≡ accepted) × (k ≡ length (bytesOf L (recordFrom n t R lists)))
+      by accepted p q = (p, (cc))
+      by (faulty r) p q = let z : _≡_ {A = ℕ} 0 1 = cc in absurd (omega arith)
+
+  module _ (v : judgedLists L n t R lists ≡ accepted) (old : List ℕ) where
+    pub no-room-outcome : length old < length (bytesOf L (recordFrom n t R lists)) → Outcome L n t R lists old (NotWritten NoRoom) old
+    unfolding writtenIn writtenTo answered bufferAfter bufferWith checkedLists judged
+    no-room-outcome h =
+        record {
+          answers = rw (v, lt-leb (length (bytesOf L (recordFrom n t R lists))) (length old) h);
+          leaves = rw (v, lt-leb (length (bytesOf L (recordFrom n t R lists))) (length old) h);
+        }
+
+    pub written-outcome : (k : ℕ) (buffer : List ℕ) → length (bytesOf L (recordFrom n t R lists)) ≤ length old
+        → Put 0 (bytesOf L (recordFrom n t R lists)) old k buffer → Outcome L n t R lists old (Length k) buffer
+    unfolding writtenIn writtenTo answered bufferAfter bufferWith checkedLists judged
+    written-outcome k buffer h put =
+        record {
+          answers = rw (v, le-leb (length (bytesOf L (recordFrom n t R lists))) (length old) h) (ap Length (put .ends ∙ zero-add _));
+          leaves = rw (v, le-leb (length (bytesOf L (recordFrom n t R lists))) (length old) h) (put .holds ∙ placed-front _ old);
+        }

@@ -1,0 +1,104 @@
+// The second pass: a record that the first pass found good goes into lent tables.
+use crate::edits::EditRead;
+use crate::edits::read_edit;
+use crate::header::HeaderRead;
+use crate::header::read_header;
+use crate::numbers::Cursor;
+use crate::numbers::Number;
+use crate::numbers::read_number;
+ghost use mathlib.Core.Path.{_≡_};
+ghost use Prim.Native.Nat.{_<_, _≤_, _*_};
+ghost use lib.ListN.{length};
+ghost use Rattle.farm.specs.Limits.{limits};
+ghost use Rattle.record.specs.declared.edits.Before.the-variants.{Nothing};
+ghost use Rattle.record.specs.declared.numbers.Passed.the-variants.{To};
+ghost use Rattle.record.specs.Edits.{takeEdits};
+ghost use Rattle.record.specs.Cursors.{passedIn};
+ghost use Rattle.record.specs.Filling.{Gives, given, takeNumbers, AllBelow};
+ghost use mathlib.Core.List.{[]};
+ghost use Rattle.record.specs.Tables.{over, tables, EditsFilled, Accepted, TablesRead, roomy};
+ghost use Rattle.record.specs.Document.{readingOf};
+ghost use mathlib.Core.Bool.{true};
+
+// The loss sets of a good record, and where the edits begin.
+pub fn fill_losses(bytes: &[u8], count: usize, losses: &mut [u16]) -> Cursor
+    requires { ⌜ (Gives (takeNumbers limits count (now bytes))) × (AllBelow 65536 (given (takeNumbers limits count (now bytes)))) × (count ≤ length (now losses)) ⌝ }
+    ensures { λ r. ⌜ (To r ≡ passedIn (now (bytes .entry)) (takeNumbers limits count (now (bytes .entry)))) × (now (losses .exit) ≡ over 0 (given (takeNumbers limits count (now (bytes .entry)))) (now (losses .entry))) ⌝ }
+{
+    let mut at: usize = 0;
+    let mut i: usize = 0;
+    while i < count {
+        let number = read_number(bytes, Cursor { at });
+        let Number::Value(set, next) = number else {
+            return Cursor { at };
+        };
+        losses[i] = set as u16;
+        at = next.at;
+        i += 1;
+    }
+    Cursor { at }
+}
+
+// The edits of a good record of n seats, field by field into four lists.
+pub fn fill_edits(
+    bytes: &[u8],
+    n: u8,
+    rounds: u16,
+    count: usize,
+    seats: &mut [u8],
+    times: &mut [u16],
+    cells: &mut [u32],
+    changes: &mut [i16],
+)
+    requires { ⌜ (0 < n) × (Gives (takeEdits limits n rounds count Nothing (now bytes))) × (count ≤ length (now seats)) × (count ≤ length (now times)) × (count ≤ length (now cells)) × (count ≤ length (now changes)) ⌝ }
+    ensures { λ _. ⌜ EditsFilled (given (takeEdits limits n rounds count Nothing (now (bytes .entry)))) (tables [] (now (seats .entry)) (now (times .entry)) (now (cells .entry)) (now (changes .entry))) (tables [] (now (seats .exit)) (now (times .exit)) (now (cells .exit)) (now (changes .exit))) ⌝ }
+{
+    let mut at: usize = 0;
+    let mut i: usize = 0;
+    while i < count {
+        let read = read_edit(bytes, Cursor { at }, n, rounds);
+        let EditRead::Edit(edit, next) = read else {
+            return;
+        };
+        seats[i] = edit.seat.0;
+        times[i] = edit.time.0;
+        cells[i] = edit.cell;
+        let change = edit.change;
+        changes[i] = change;
+        at = next.at;
+        i += 1;
+    }
+}
+
+// All of a good record into tables with room for any record.
+pub fn fill(
+    bytes: &[u8],
+    losses: &mut [u16],
+    seats: &mut [u8],
+    times: &mut [u16],
+    cells: &mut [u32],
+    changes: &mut [i16],
+)
+    requires { ⌜ (Accepted (readingOf (now bytes))) × (roomy limits (tables (now losses) (now seats) (now times) (now cells) (now changes)) ≡ true) ⌝ }
+    ensures { λ _. ⌜ TablesRead (readingOf (now (bytes .entry))) (tables (now (losses .entry)) (now (seats .entry)) (now (times .entry)) (now (cells .entry)) (now (changes .entry))) (tables (now (losses .exit)) (now (seats .exit)) (now (times .exit)) (now (cells .exit)) (now (changes .exit))) ⌝ }
+{
+    let read = read_header(bytes);
+    let HeaderRead::Header(header, after_header) = read else {
+        return;
+    };
+    let at = after_header.at;
+    let part = &bytes[at..];
+    let count = header.rounds as usize * header.seats as usize;
+    let after_losses = fill_losses(part, count, losses);
+    let next = after_losses.at;
+    fill_edits(
+        &part[next..],
+        header.seats,
+        header.rounds,
+        header.edits as usize,
+        seats,
+        times,
+        cells,
+        changes,
+    );
+}
