@@ -30,7 +30,6 @@ use Rattle.record.proofs.GoodLaws.{and3-elim, HeaderFacts, header-facts
 use Rattle.record.proofs.ColumnLaws.{columns-from-edits}
 use Rattle.record.proofs.WritingLaws.{unless-accepted, fitting-elim, Fitting, lists-accepted}
 use Rattle.record.proofs.LengthLaws.{record-length}
-use Rattle.record.proofs.PlacingLaws.{placed-front}
 
 -- ════ The judging code's answers ════
 
@@ -144,5 +143,5 @@ module _ (L : Limits) (n t R : ℕ) (lists : Tables) where
     written-outcome k buffer h put =
         record {
           answers = rw (v, le-leb (length (bytesOf L (recordFrom n t R lists))) (length old) h) (ap Length (put .ends ∙ zero-add _));
-          leaves = rw (v, le-leb (length (bytesOf L (recordFrom n t R lists))) (length old) h) (put .holds ∙ placed-front _ old);
+          leaves = rw (v, le-leb (length (bytesOf L (recordFrom n t R lists))) (length old) h) (put .holds);
         }

@@ -1,56 +1,49 @@
 -- Bytes put into a buffer one run after the other are put there as one run.
 -- Assumes nothing.
 use mathlib.Core.Path.{_≡_, refl, sym, _∙_, ap, ap₂}
-use mathlib.Core.List.{List, [], _∷_, _++_, append-assoc, append-nil}
+use mathlib.Core.List.{List, [], _∷_, _++_, append-assoc}
 use Prim.Native.Nat.{ℕ, _+_, _/_, _%_, _<_, _≤_}
 use native.Mathlib.Numerals.{add-one}
-use native.Mathlib.Nat.{add-zero, zero-add, add-assoc}
+use native.Mathlib.Nat.{add-zero, add-assoc}
 use native.Mathlib.Omega.{arith}
-use lib.ListN.{length, take, drop, set, length-append, length-take, length-drop, take-append-drop}
+use lib.ListN.{length, take, drop, set, length-append, length-take}
 use lib.Seq.{take-at, drop-append-add, drop-drop, sets, sets-eq}
 use Rattle.farm.specs.Limits.{limits}
 use Rattle.record.specs.Numbers.{numberBytes}
 use Rattle.record.specs.Tables.{over}
-use Rattle.record.specs.Placing.{placed, Put}
+use Rattle.record.specs.Placing.{Put}
+use Rattle.record.proofs.TableLaws.{over-none, length-over}
 use Rattle.record.proofs.SizeLaws.{one-byte, two-bytes, three-bytes}
 
--- ════ One run ════
+-- ════ One run after the other ════
 
-pub placed-sets : (at : ℕ) (new old : List ℕ) → at + length new ≤ length old → sets old at new ≡ placed at new old
-unfolding placed
-placed-sets at new old h = sets-eq new old at h
+pub over-sets : (at : ℕ) (new old : List ℕ) → at + length new ≤ length old → sets old at new ≡ over at new old
+unfolding over
+over-sets at new old h = sets-eq new old at h ∙ append-assoc (take at old) new (drop (at + length new) old)
 
-pub placed-nothing : (at : ℕ) (old : List ℕ) → placed at [] old ≡ old
-unfolding placed
-placed-nothing at old = rw (add-zero, append-nil, take-append-drop)
-
-pub placed-front : (new old : List ℕ) → placed 0 new old ≡ over 0 new old
-unfolding placed over
-placed-front new old = append-assoc (take 0 old) new (drop (0 + length new) old)
-
-pub length-placed : (at : ℕ) (new old : List ℕ) → at + length new ≤ length old → length (placed at new old) ≡ length old
-unfolding placed
-length-placed at new old h = simp (length-append, length-take, length-drop) (omega arith)
-
--- ════ One after the other ════
-
-pub placed-on : (at : ℕ) (a b old : List ℕ) → at + length a ≤ length old
-    → placed (at + length a) b (placed at a old) ≡ placed at (a ++ b) old
-unfolding placed
-placed-on at a b old h = ap₂ (λ (x y : List ℕ). x ++ b ++ y) front back ∙ rw (append-assoc (take at old) a b, length-append a b, add-assoc)
+pub over-on : (at : ℕ) (a b old : List ℕ) → at + length a ≤ length old → over (at + length a) b (over at a old) ≡ over at (a ++ b) old
+unfolding over
+over-on at a b old h =
+    ap₂ (λ (x y : List ℕ). x ++ (b ++ y)) front back
+    ∙ rw (append-assoc (take at old) a (b ++ drop (at + length a + length b) old), append-assoc a b, length-append a b, add-assoc)
   where
+    whole : take at old ++ (a ++ drop (at + length a) old) ≡ take at old ++ a ++ drop (at + length a) old
+    whole = sym (append-assoc (take at old) a (drop (at + length a) old))
+
     long : length (take at old ++ a) ≡ at + length a
     long = simp (length-append, length-take) (omega arith)
 
-    front : take (at + length a) (take at old ++ a ++ drop (at + length a) old) ≡ take at old ++ a
-    front = take-at (take at old ++ a) (drop (at + length a) old) (at + length a) long
+    front : take (at + length a) (take at old ++ (a ++ drop (at + length a) old)) ≡ take at old ++ a
+    front = rw whole (take-at (take at old ++ a) (drop (at + length a) old) (at + length a) long)
 
-    back : drop (at + length a + length b) (take at old ++ a ++ drop (at + length a) old) ≡ drop (at + length a + length b) old
-    back = rw long at (drop-append-add (take at old ++ a) (drop (at + length a) old) (length b)) ∙ drop-drop (length b) (at + length a) old
+    back : drop (at + length a + length b) (take at old ++ (a ++ drop (at + length a) old)) ≡ drop (at + length a + length b) old
+    back =
+        rw whole
+        (rw long at (drop-append-add (take at old ++ a) (drop (at + length a) old) (length b)) ∙ drop-drop (length b) (at + length a) old)
 
 module _ (at : ℕ) (a old : List ℕ) (m : ℕ) (mid : List ℕ) (first : Put at a old m mid) where
   pub put-long : at + length a ≤ length old → length mid ≡ length old
-  put-long h = ap length (first .holds) ∙ length-placed at a old h
+  put-long h = ap length (first .holds) ∙ length-over at a old h
 
   pub put-room : (b : List ℕ) → at + length (a ++ b) ≤ length old → m + length b ≤ length mid
   put-room b h =
@@ -66,7 +59,7 @@ module _ (at : ℕ) (a old : List ℕ) (m : ℕ) (mid : List ℕ) (first : Put a
       let second-end = second .ends in
       record {
         ends = omega arith;
-        holds = second .holds ∙ rw (first .ends, first .holds) (placed-on at a b old (omega arith));
+        holds = second .holds ∙ rw (first .ends, first .holds) (over-on at a b old (omega arith));
       }
 
 -- ════ What a loop still owes ════
@@ -74,7 +67,7 @@ module _ (at : ℕ) (a old : List ℕ) (m : ℕ) (mid : List ℕ) (first : Put a
 -- The rest put at the present place of the present buffer is the whole put at the first place of the old one.
 pub record Owed (at : ℕ) (rest present : List ℕ) (from : ℕ) (all old : List ℕ) : Type 0 where
   pub ends : at + length rest ≡ from + length all
-  pub holds : placed at rest present ≡ placed from all old
+  pub holds : over at rest present ≡ over from all old
   pub long : length present ≡ length old
 
 pub owed-first : (from : ℕ) (all old : List ℕ) → Owed from all old from all old
@@ -84,7 +77,7 @@ module _ (at : ℕ) (rest present : List ℕ) (from : ℕ) (all old : List ℕ) 
   pub owed-done : rest ≡ [] → Put from all old at present
   owed-done e =
       let ends = rw e at (owed .ends) in
-      record { ends = sym (add-zero at) ∙ ends; holds = sym (placed-nothing at present) ∙ rw e at (owed .holds) }
+      record { ends = sym (add-zero at) ∙ ends; holds = sym (over-none at present) ∙ rw e at (owed .holds) }
 
   module _ (a b : List ℕ) (parts : rest ≡ a ++ b) (room : from + length all ≤ length old) where
     pub owed-room : at + length a ≤ length present
@@ -101,7 +94,7 @@ module _ (at : ℕ) (rest present : List ℕ) (from : ℕ) (all old : List ℕ) 
         let next = put .ends in
         record {
           ends = omega arith;
-          holds = rw (put .ends, put .holds) (placed-on at a b present owed-room) ∙ ap (λ (x : List ℕ). placed at x present) (sym parts) ∙ owed .holds;
+          holds = rw (put .ends, put .holds) (over-on at a b present owed-room) ∙ ap (λ (x : List ℕ). over at x present) (sym parts) ∙ owed .holds;
           long = put-long at a present m new put owed-room ∙ owed .long;
         }
 
@@ -112,14 +105,14 @@ module _ (at v : ℕ) (old : List ℕ) (room : at + length (numberBytes limits v
   put-one small =
       let same = one-byte v small in
       let size = ap length same in
-      record { ends = omega arith; holds = rw same (placed-sets at (v ∷ []) old (omega arith)) }
+      record { ends = omega arith; holds = rw same (over-sets at (v ∷ []) old (omega arith)) }
 
   pub put-two : 128 ≤ v → v / 128 < 128
       → Put at (numberBytes limits v) old (at + 1 + 1) (set (set old at (128 + v % 128)) (at + 1) (v / 128))
   put-two large small =
       let same = two-bytes v large small in
       let size = ap length same in
-      record { ends = omega arith; holds = rw (same, add-one) (placed-sets at ((128 + v % 128) ∷ v / 128 ∷ []) old (omega arith)) }
+      record { ends = omega arith; holds = rw (same, add-one) (over-sets at ((128 + v % 128) ∷ v / 128 ∷ []) old (omega arith)) }
 
   pub put-three : 128 ≤ v → 128 ≤ v / 128
       → Put at (numberBytes limits v) old (at + 1 + 1 + 1)
@@ -130,7 +123,7 @@ module _ (at v : ℕ) (old : List ℕ) (room : at + length (numberBytes limits v
       record {
         ends = omega arith;
         holds = rw (same, add-one (at + 1), add-one at)
-            (placed-sets at ((128 + v % 128) ∷ (128 + v / 128 % 128) ∷ v / 128 / 128 ∷ []) old (omega arith));
+            (over-sets at ((128 + v % 128) ∷ (128 + v / 128 % 128) ∷ v / 128 / 128 ∷ []) old (omega arith));
       }
 
 -- ════ Three runs, and a fourth ════

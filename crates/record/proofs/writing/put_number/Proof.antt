@@ -41,7 +41,7 @@ cast-out-3 : tie.Need-cast-out-3
 cast-out-3 c = search needs
 
 slice-write-out-3 : tie.Need-slice-write-out-3
-slice-write-out-3 c = let size = ap length (two-bytes (c .before .before .args .value) (c .before .if1 .left) (c .if2 .taken)) in simp length-set (omega arith)
+slice-write-out-3 c = let size = ap length (two-bytes (c .before .before .args .value) (c .before .if1 .left) (omega arith)) in simp length-set (omega arith)
 
 add-result-2 : tie.Need-add-result-2
 add-result-2 c = search needs
@@ -50,7 +50,7 @@ same-length-2 : tie.Need-same-length-2
 same-length-2 c = search needs
 
 returns-2 : tie.Need-returns-2
-returns-2 c = put-two (c .before .before .args .at) (c .before .before .args .value) (now (c .before .before .args .out)) (c .before .before .pre .1) (c .before .if1 .left) (c .if2 .taken)
+returns-2 c = put-two (c .before .before .args .at) (c .before .before .args .value) (now (c .before .before .args .out)) (c .before .before .pre .1) (c .before .if1 .left) (omega arith)
 
 add-out-2 : tie.Need-add-out-2
 add-out-2 c = search needs
@@ -59,7 +59,7 @@ cast-out-4 : tie.Need-cast-out-4
 cast-out-4 c = search needs
 
 slice-write-out-4 : tie.Need-slice-write-out-4
-slice-write-out-4 c = let size = ap length (three-bytes (c .before .before .args .value) (c .before .if1 .left) (c .if2 .left)) in simp length-set (omega arith)
+slice-write-out-4 c = let size = ap length (three-bytes (c .before .before .args .value) (c .before .if1 .left) (omega arith)) in simp length-set (omega arith)
 
 add-third : tie.Need-add-third
 add-third c = search needs
@@ -68,7 +68,7 @@ cast-out-5 : tie.Need-cast-out-5
 cast-out-5 c = search needs
 
 slice-write-out-5 : tie.Need-slice-write-out-5
-slice-write-out-5 c = let size = ap length (three-bytes (c .before .before .args .value) (c .before .if1 .left) (c .if2 .left)) in simp length-set (omega arith)
+slice-write-out-5 c = let size = ap length (three-bytes (c .before .before .args .value) (c .before .if1 .left) (omega arith)) in simp length-set (omega arith)
 
 add-result-3 : tie.Need-add-result-3
 add-result-3 c = search needs
@@ -77,7 +77,7 @@ same-length-3 : tie.Need-same-length-3
 same-length-3 c = search needs
 
 returns-3 : tie.Need-returns-3
-returns-3 c = put-three (c .before .before .args .at) (c .before .before .args .value) (now (c .before .before .args .out)) (c .before .before .pre .1) (c .before .if1 .left) (c .if2 .left)
+returns-3 c = put-three (c .before .before .args .at) (c .before .before .args .value) (now (c .before .before .args .out)) (c .before .before .pre .1) (c .before .if1 .left) (omega arith)
 
 pub put-number-spec : {M : Type 1} → statement M
 put-number-spec =
