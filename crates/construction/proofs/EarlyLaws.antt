@@ -1,12 +1,11 @@
 -- Views and cores at a time up to the last round have counts that fit the signed numbers in which they are given.
 -- Assumes nothing.
-use mathlib.Core.Path.{_≡_, refl, sym, _∙_, ap}
+use mathlib.Core.Path.{_≡_, ap}
 use mathlib.Core.Logic.{_⊎_, inl, inr}
-use mathlib.Core.List.{List}
 use Prim.Native.Nat.{ℕ, zero, suc, _+_, _≤_, _<_, zero-le}
 use native.Mathlib.Nat.{not-suc-le-zero, le-trans}
 use native.Mathlib.Omega.{arith}
-use lib.ListN.{length, getD, List·getD-eq-default}
+use lib.ListN.{getD, List·getD-eq-default}
 use Rattle.farm.specs.Limits.{limits}
 use Rattle.farm.proofs.Cases.{less-or-not}
 use Rattle.farm.specs.declared.places.Seat.{Seat}
@@ -14,8 +13,8 @@ use Rattle.farm.specs.declared.places.Time.{Time}
 use Rattle.knowledge.specs.Farm.{Farm, IsSeat}
 use Rattle.knowledge.specs.Views.{View, view, viewOf, viewsOf}
 use Rattle.knowledge.specs.Chain.{stage, stageOf}
-use Rattle.knowledge.specs.Settled.{Settled, Outcome, overBound, settled, IsSettled, IsOutcome, criticalTime, coreView, outcomeOf}
-use Rattle.construction.specs.Counts.{room, counts, filled, below, Early}
+use Rattle.knowledge.specs.Settled.{Settled, Outcome, overBound, settled, IsOutcome, criticalTime, coreView, outcomeOf}
+use Rattle.construction.specs.Counts.{room, counts, Early}
 use Rattle.construction.specs.Answers.{answerFor}
 use Rattle.construction.specs.declared.settled.Answer.{Answer}
 use Rattle.knowledge.proofs.ViewLaws.{le-of-below}

@@ -1,23 +1,20 @@
 -- One turn of the loops that look for a lost send, each law over plain values.
 -- Assumes nothing.
 use mathlib.Core.Path.{_≡_, refl, sym, _∙_, ap, ap₂}
-use mathlib.Core.Bool.{Bool, true, false, cond, _&&_, _||_}
+use mathlib.Core.Bool.{Bool, true, false, _&&_, _||_}
 use mathlib.Core.List.{List}
-use Prim.Native.Nat.{ℕ, zero, suc, _+_, _-_, _^_, _≤_, _<_}
-use native.Mathlib.Nat.{not-suc-le-zero}
-use native.Mathlib.Numerals.{add-one}
+use Prim.Native.Nat.{ℕ, zero, suc, _+_, _-_, _≤_, _<_}
 use native.Mathlib.Omega.{arith}
 use lib.Dec.{ltb}
 use lib.ListN.{getD}
 use borrow.Author.Tests.{lt-ltb}
-use Rattle.farm.specs.Sets.{Seats, bit, any, collect}
-use Rattle.farm.proofs.Cases.{and-intro, or-none}
-use Rattle.farm.proofs.SetLaws.{any-intro, any-none, collect-below, collect-equal, bit-collect}
+use Rattle.farm.specs.Sets.{Seats, bit, any}
+use Rattle.farm.proofs.SetLaws.{any-intro, any-none, collect-equal, bit-collect}
 use Rattle.knowledge.specs.Farm.{Farm, lostIn, farmOf, losesIn, losesBy, losersBy, time}
 use Rattle.knowledge.specs.Views.{View}
 use Rattle.knowledge.specs.Known.{missedAt, missed, knownIn}
 use Rattle.construction.specs.Counts.{room, counts, held, lostBefore}
-use Rattle.construction.proofs.SetSteps.{any-more, collect-more}
+use Rattle.construction.proofs.SetSteps.{any-more}
 use Rattle.construction.proofs.ViewSteps.{held-counts}
 
 -- ════ Looking for one that passes ════

@@ -1,19 +1,18 @@
 -- Counts as latest times: one number, a turn of the loop over an array, and what the array says of a view.
 -- Assumes nothing.
 use mathlib.Core.Path.{_≡_, refl, sym, _∙_, ap, ap₂}
-use mathlib.Core.List.{List, [], _∷_, _++_, map}
-use Prim.Native.Nat.{ℕ, zero, suc, _+_, _-_, _^_, _≤_, _<_}
+use mathlib.Core.List.{List, [], _∷_, _++_}
+use Prim.Native.Nat.{ℕ, zero, suc, _+_, _^_, _≤_, _<_}
 use native.Mathlib.Nat.{le-refl}
 use native.Mathlib.Numerals.{add-one}
 use native.Mathlib.Omega.{arith}
-use lib.IntN.{ℤ, pos, negsuc, _-ℤ_}
-use lib.ListN.{length, getD, take, set, length-set, length-map, List·getD-map}
+use lib.IntN.{ℤ, pos, _-ℤ_}
+use lib.ListN.{length, getD, take, set, length-map, List·getD-map}
 use lib.Seq.{take-suc, take-suc-set, take-all}
 use mir.Syntax.{w16}
 use mir.Val.{toZ, ofZ}
 use Rattle.knowledge.specs.Views.{View, latest, latestTimes}
-use Rattle.construction.specs.Counts.{room, counts, latestIn, filled}
-use Rattle.construction.proofs.CountLaws.{length-filled}
+use Rattle.construction.specs.Counts.{room, counts, latestIn}
 use Rattle.construction.proofs.ViewSteps.{counts-length, counts-at}
 use Rattle.construction.proofs.SettleSteps.{back-is, minus-at}
 

@@ -3,29 +3,26 @@
 -- Assumes nothing.
 use mathlib.Core.Path.{_≡_, refl, sym, _∙_, ap, ap₂}
 use mathlib.Core.Logic.{_⊎_, inl, inr, _≢_, ⊎-elim}
-use mathlib.Core.Bool.{Bool, true, false, cond}
 use mathlib.Core.List.{List}
 use Prim.Native.Nat.{ℕ, zero, suc, _+_, _-_, _^_, _≤_, _<_}
 use native.Mathlib.Nat.{not-suc-le-zero, lt-irrefl}
 use native.Mathlib.Numerals.{add-one}
 use native.Mathlib.Omega.{arith}
-use lib.Dec.{eqb, ltb}
 use lib.IntN.{ℤ, pos, negsuc, _-ℤ_}
 use lib.ListN.{replicate}
-use lib.Signed.{mag}
 use mir.Syntax.{w16}
 use mir.Val.{SFits, toZ, ofZ}
 use mir.ValLaws.{toZ-pos, toZ-ofZ}
 use borrow.Author.Tests.{le-ltb, lt-ltb}
-use Rattle.farm.specs.Sets.{Seats, bit, size, outside}
+use Rattle.farm.specs.Sets.{Seats, size, outside}
 use Rattle.farm.specs.declared.places.Seat.{Seat}
 use Rattle.farm.specs.declared.places.Time.{Time}
 use Rattle.farm.specs.declared.refusals.Refusal.the-variants.{OverBound}
 use Rattle.farm.proofs.Cases.{less-or-not}
 use Rattle.knowledge.specs.Farm.{Farm, IsSeat}
-use Rattle.knowledge.specs.Views.{View, viewsOf}
+use Rattle.knowledge.specs.Views.{viewsOf}
 use Rattle.knowledge.specs.Settled.{criticalTime, coreView, next, reached, settleFrom, outcomeOf}
-use Rattle.construction.specs.Counts.{room, counts, held, below, filled}
+use Rattle.construction.specs.Counts.{room, counts, held}
 use Rattle.construction.specs.Answers.{Shrinks, settledFor, answerFor}
 use Rattle.knowledge.specs.Known.{knownIn, knownOf}
 use Rattle.construction.specs.declared.views.Counts.{Counts}
@@ -36,7 +33,7 @@ use Rattle.construction.specs.declared.settled.Ruling.the-variants.{Answ
 use Rattle.construction.proofs.KnownSteps.{known-held}
 use Rattle.knowledge.proofs.ChainLaws.{stage-start, settle-stops, settle-goes-on, settle-over, settle-within}
 use Rattle.knowledge.proofs.ChainTheory.{Falling, change-falls, next-falls, stage-falls}
-use Rattle.construction.proofs.CountLaws.{filled-none, filled-equal, filled-skip}
+use Rattle.construction.proofs.CountLaws.{filled-none, filled-skip}
 
 -- ════ A time that lies back ════
 

@@ -1,11 +1,12 @@
 -- One turn of the loops that join views and take them forward, each law over plain values.
 -- Assumes nothing.
 use mathlib.Core.Path.{_≡_, refl, sym, _∙_, ap, ap₂}
-use mathlib.Core.Logic.{_⊎_, inl, inr, ⊎-elim, _≢_}
-use mathlib.Core.Bool.{Bool, true, false, cond, not}
+use mathlib.Core.Logic.{_⊎_, inl, inr, _≢_}
+use mathlib.Core.Bool.{Bool, cond, not}
 use mathlib.Core.List.{List, []}
-use Prim.Native.Nat.{ℕ, zero, suc, _+_, _*_, _-_, _/_, _%_, _^_, _≤_, _<_, max}
-use native.Mathlib.Nat.{lt-irrefl}
+use Prim.Native.Nat.{ℕ, zero, suc, _+_, _*_, _/_, _%_, _^_, _≤_, _<_, max}
+use native.Mathlib.Nat.{div-one, div-div-eq-div-mul}
+use lib.Pow.{pow-add}
 use native.Mathlib.Numerals.{add-one}
 use native.Mathlib.Omega.{arith}
 use lib.Dec.{eqb, ltb}
@@ -15,9 +16,10 @@ use borrow.Author.Tests.{eq-eqb, ne-eqb}
 use Rattle.farm.specs.Sets.{Seats, bit, collect}
 use Rattle.farm.proofs.Cases.{less-or-not}
 use Rattle.farm.proofs.SetLaws.{collect-below, bit-collect}
-use Rattle.knowledge.specs.Farm.{Farm, lostIn, farmOf}
+use Rattle.knowledge.specs.Farm.{Farm, Place, lostIn, farmOf}
+use Rattle.knowledge.specs.Settled.{hasPlace}
 use Rattle.knowledge.specs.Views.{View, upTo, joined, view, viewsOf}
-use Rattle.construction.specs.Counts.{room, below, filled, counts, held, viewIn, arrivals, countAt, countsTo, viewsTo, allCounts, firstCounts}
+use Rattle.construction.specs.Counts.{room, below, counts, held, viewIn, arrivals, countAt, countsTo, viewsTo, allCounts, firstCounts}
 use Rattle.construction.proofs.CountLaws.{length-filled, below-in, below-out, filled-none, filled-more, filled-skip, filled-equal, getD-filled}
 use Rattle.construction.proofs.SetSteps.{collect-more}
 
@@ -32,12 +34,19 @@ pub joined-more : (p : ℕ) (test : ℕ → Bool) (views : ℕ → View) (q : �
 unfolding joined
 joined-more p test views q = rw (add-one, joined) refl
 
--- A turn at seat p: the count of the seats below p, whether p joins, and p's own count.
-pub joined-turn : (p : ℕ) (set : Seats) (table : List ℕ) (q count : ℕ) (joins : Bool) (result : ℕ)
-    → count ≡ joined p (bit set) (viewIn table) q → joins ≡ bit set p
-    → result ≡ max count (cond joins (getD table (p * room + q) 0) 0) → result ≡ joined (p + 1) (bit set) (viewIn table) q
-unfolding viewIn
-joined-turn p set table q count joins result before e r = r ∙ (rw (before, e) (joined-more p (bit set) (viewIn table) q))
+-- The rest of a set from seat p on.
+pub rest-none : (set : Seats) → set ≡ set / 2 ^ 0
+rest-none set = sym (div-one set)
+
+pub rest-more : (set rest p : ℕ) → rest ≡ set / 2 ^ p → rest / 2 ≡ set / 2 ^ (p + 1)
+rest-more set rest p e = rw (e, pow-add 2 p 1) (div-div-eq-div-mul set (2 ^ p) 2)
+
+-- A turn at seat p: the count of the seats below p, the rest of the set from p on, and p's own count.
+pub joined-turn : (p : ℕ) (set rest : Seats) (table : List ℕ) (q count result : ℕ) → count ≡ joined p (bit set) (viewIn table) q
+    → rest ≡ set / 2 ^ p → result ≡ max count (cond (eqb (rest % 2) 1) (getD table (p * room + q) 0) 0)
+    → result ≡ joined (p + 1) (bit set) (viewIn table) q
+unfolding viewIn bit
+joined-turn p set rest table q count result before e r = r ∙ (rw (before, e) (joined-more p (bit set) (viewIn table) q))
 
 -- ════ Whom a seat heard ════
 
@@ -229,3 +238,8 @@ counts-length n v = length-filled room n v
 pub counts-at : (n : ℕ) (v : View) (q : ℕ) → n ≤ room → q < n → getD (counts n v) q 0 ≡ v q
 unfolding held
 counts-at n v q small h = held-counts n v q small h
+
+-- A place of one of the seats is in the array's view exactly when it is in the view.
+pub place-in-counts : (n : ℕ) (v : View) (x : Place) → n ≤ room → x .seat .0 < n → hasPlace (held (counts n v)) x ≡ hasPlace v x
+unfolding hasPlace
+place-in-counts n v x small h = ap (ltb (x .time .0)) (held-counts n v (x .seat .0) small h)

@@ -1,7 +1,6 @@
 -- What the code answers, for each outcome of specs/Settled.antt: the meaning of each case of its structs and enums.
 use mathlib.Core.Path.{_≡_}
 use mathlib.Core.Bool.{true}
-use mathlib.Core.List.{List}
 use Prim.Native.Nat.{ℕ, _^_, _≤_, _<_}
 use lib.IntN.{pos}
 use Rattle.farm.specs.Sets.{Seats, bit, size}
@@ -14,7 +13,6 @@ use Rattle.construction.specs.Counts.{counts}
 use Rattle.construction.specs.declared.views.Counts.{Counts}
 use Rattle.construction.specs.declared.settled.Settled.{Settled}
 use Rattle.construction.specs.declared.settled.Answer.{Answer}
-use Rattle.construction.specs.declared.settled.Ruling.{Ruling}
 use Rattle.construction.specs.declared.settled.Ruling.the-variants.{Answered, Refused}
 
 -- ════ Answers ════

@@ -18,9 +18,9 @@ ghost use Rattle.farm.specs.Limits.{limits};
 ghost use Rattle.farm.specs.Sets.{size};
 ghost use Rattle.construction.specs.Counts.{counts, farmFor};
 ghost use Rattle.knowledge.specs.Settled.{coreView, settleFrom, outcomeOf};
-ghost use Rattle.construction.specs.Answers.{Shrinks, settledFor, answerFor, nothing};
+ghost use Rattle.construction.specs.Answers.{Shrinks, settledFor, answerFor};
 
-// Rule 5.
+// Rule 5: the count of steps, the critical time, which may be below 0, the kept set and the core.
 pub struct Settled {
     pub steps: u8,
     pub critical: i16,

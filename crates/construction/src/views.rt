@@ -14,8 +14,10 @@ ghost use Prim.Native.Nat.{suc, max, _≤_, _<_};
 ghost use lib.IntN.{pos};
 ghost use Rattle.farm.specs.Limits.{limits};
 ghost use Rattle.farm.specs.Sets.{bit};
+ghost use Rattle.knowledge.specs.Farm.{place};
+ghost use Rattle.knowledge.specs.Settled.{hasPlace};
 ghost use Rattle.knowledge.specs.Views.{upTo, joined, viewOf, viewsOf};
-ghost use Rattle.construction.specs.Counts.{counts, viewIn, arrivals, farmFor, allCounts, viewsTo, firstCounts};
+ghost use Rattle.construction.specs.Counts.{counts, held, viewIn, arrivals, farmFor, allCounts, viewsTo, firstCounts};
 
 // Room for one view, and for the views of all seats.
 pub const ROOM: usize = MOST_SEATS as usize;
@@ -48,9 +50,11 @@ fn joined_count(views: &[u16; TABLE], seats: u8, set: u16, of: Seat) -> u16
     ensures { λ r. ⌜ r ≡ joined seats (bit set) (viewIn (now (views .entry))) (of .0) ⌝ }
 {
     let mut count: u16 = 0;
+    let mut rest = set;
     for p in 0..seats {
         let at = (p as usize) * ROOM + (of.0 as usize);
-        count = larger(count, holds(set, Seat(p)), views[at]);
+        count = larger(count, rest % 2 == 1, views[at]);
+        rest = rest / 2;
     }
     count
 }

@@ -3,9 +3,7 @@
 use Rattle.construction.proofs.KnownSteps.{known-held}
 use Rattle.construction.specs.Counts.{farmFor}
 use Rattle.knowledge.specs.Views.{viewOf}
-use native.Mathlib.Omega.{arith}
-use Prim.Native.Nat.{ℕ, zero-le, suc, _+_, _*_, _-_, _≤_, _<_}
-use mathlib.Core.Path.{_≡_, refl, sym, _∙_, ap}
+use mathlib.Core.Path.{_∙_}
 use borrow.Author.Needs.{needs}
 use Rattle.construction.proofs.known.known_of.Statement.{statement}
 use Rattle.construction.proofs.known.known_of.Tie as tie

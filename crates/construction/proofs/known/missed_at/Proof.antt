@@ -4,8 +4,8 @@ use Rattle.construction.proofs.KnownSteps.{lost-start, lost-found, lost
 use Rattle.construction.specs.Counts.{lostBefore, farmFor}
 use mathlib.Core.Bool.{false}
 use native.Mathlib.Omega.{arith}
-use Prim.Native.Nat.{ℕ, zero-le, suc, _+_, _*_, _-_, _≤_, _<_}
-use mathlib.Core.Path.{_≡_, refl, sym, _∙_, ap}
+use Prim.Native.Nat.{_-_, _≤_}
+use mathlib.Core.Path.{_≡_}
 use borrow.Author.Needs.{needs}
 use Rattle.construction.proofs.known.missed_at.Statement.{statement}
 use Rattle.construction.proofs.known.missed_at.Tie as tie

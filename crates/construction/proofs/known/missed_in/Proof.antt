@@ -6,8 +6,8 @@ use Rattle.knowledge.specs.Known.{missed, missedAt}
 use Rattle.farm.specs.Sets.{any}
 use mathlib.Core.Bool.{false}
 use native.Mathlib.Omega.{arith}
-use Prim.Native.Nat.{ℕ, zero-le, suc, _+_, _*_, _-_, _≤_, _<_}
-use mathlib.Core.Path.{_≡_, refl, sym, _∙_, ap}
+use Prim.Native.Nat.{zero-le, _-_, _≤_}
+use mathlib.Core.Path.{_≡_, refl}
 use borrow.Author.Needs.{needs}
 use Rattle.construction.proofs.known.missed_in.Statement.{statement}
 use Rattle.construction.proofs.known.missed_in.Tie as tie

@@ -3,8 +3,6 @@
 use Rattle.construction.proofs.LatestSteps.{latest-back}
 use Rattle.construction.proofs.SettleSteps.{back-fits}
 use native.Mathlib.Omega.{arith}
-use Prim.Native.Nat.{ℕ, zero-le, suc, _+_, _*_, _-_, _≤_, _<_}
-use mathlib.Core.Path.{_≡_, refl, sym, _∙_, ap}
 use borrow.Author.Needs.{needs}
 use Rattle.construction.proofs.latest.latest_time.Statement.{statement}
 use Rattle.construction.proofs.latest.latest_time.Tie as tie

@@ -6,8 +6,8 @@ use Rattle.construction.proofs.LatestSteps.{latest-turn, latest-end}
 use Rattle.construction.specs.Counts.{room, latestIn}
 use lib.ListN.{length, length-set, take}
 use native.Mathlib.Omega.{arith}
-use Prim.Native.Nat.{ℕ, zero-le, suc, _+_, _*_, _-_, _≤_, _<_}
-use mathlib.Core.Path.{_≡_, refl, sym, _∙_, ap}
+use Prim.Native.Nat.{zero-le, _-_, _≤_}
+use mathlib.Core.Path.{_≡_, refl, _∙_}
 use borrow.Author.Needs.{needs}
 use Rattle.construction.proofs.latest.latest_times.Statement.{statement}
 use Rattle.construction.proofs.latest.latest_times.Tie as tie

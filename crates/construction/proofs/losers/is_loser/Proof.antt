@@ -2,9 +2,6 @@
 -- Assumes nothing.
 use Rattle.construction.proofs.KnownSteps.{loser-bit}
 use Rattle.construction.specs.Counts.{farmFor}
-use native.Mathlib.Omega.{arith}
-use Prim.Native.Nat.{ℕ, zero-le, suc, _+_, _*_, _-_, _≤_, _<_}
-use mathlib.Core.Path.{_≡_, refl, sym, _∙_, ap}
 use borrow.Author.Needs.{needs}
 use Rattle.construction.proofs.losers.is_loser.Statement.{statement}
 use Rattle.construction.proofs.losers.is_loser.Tie as tie

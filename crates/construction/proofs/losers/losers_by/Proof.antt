@@ -5,8 +5,8 @@ use Rattle.construction.proofs.SetSteps.{collect-turn, collect-fits}
 use Rattle.construction.specs.Counts.{farmFor}
 use Rattle.farm.specs.Sets.{collect}
 use native.Mathlib.Omega.{arith}
-use Prim.Native.Nat.{ℕ, zero-le, suc, _+_, _*_, _-_, _≤_, _<_}
-use mathlib.Core.Path.{_≡_, refl, sym, _∙_, ap}
+use Prim.Native.Nat.{ℕ, zero-le, _-_, _≤_}
+use mathlib.Core.Path.{_≡_, refl, _∙_, ap}
 use borrow.Author.Needs.{needs}
 use Rattle.construction.proofs.losers.losers_by.Statement.{statement}
 use Rattle.construction.proofs.losers.losers_by.Tie as tie

@@ -5,8 +5,8 @@ use Rattle.construction.specs.Counts.{farmFor}
 use Rattle.knowledge.specs.Farm.{losesBy}
 use mathlib.Core.Bool.{false}
 use native.Mathlib.Omega.{arith}
-use Prim.Native.Nat.{ℕ, zero-le, suc, _+_, _*_, _-_, _≤_, _<_}
-use mathlib.Core.Path.{_≡_, refl, sym, _∙_, ap}
+use Prim.Native.Nat.{zero-le, _-_, _≤_}
+use mathlib.Core.Path.{_≡_}
 use borrow.Author.Needs.{needs}
 use Rattle.construction.proofs.losers.loses_by.Statement.{statement}
 use Rattle.construction.proofs.losers.loses_by.Tie as tie

@@ -5,8 +5,8 @@ use Rattle.knowledge.specs.Farm.{lostIn, losesIn}
 use Rattle.farm.specs.Sets.{any}
 use mathlib.Core.Bool.{false}
 use native.Mathlib.Omega.{arith}
-use Prim.Native.Nat.{ℕ, zero-le, suc, _+_, _*_, _-_, _≤_, _<_}
-use mathlib.Core.Path.{_≡_, refl, sym, _∙_, ap}
+use Prim.Native.Nat.{zero-le, suc, _-_, _≤_}
+use mathlib.Core.Path.{_≡_, refl}
 use borrow.Author.Needs.{needs}
 use Rattle.construction.proofs.losers.loses_in.Statement.{statement}
 use Rattle.construction.proofs.losers.loses_in.Tie as tie

@@ -1,7 +1,7 @@
 -- `construction::sets::seats_outside` meets its contract.
 -- Assumes nothing.
 use mathlib.Core.Path.{_≡_, refl}
-use Prim.Native.Nat.{ℕ, zero-le, _-_, _≤_}
+use Prim.Native.Nat.{zero-le, _-_, _≤_}
 use native.Mathlib.Omega.{arith}
 use borrow.Author.Needs.{needs}
 use Rattle.farm.specs.Sets.{outside, collect}

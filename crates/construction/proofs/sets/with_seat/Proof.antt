@@ -1,7 +1,5 @@
 -- `construction::sets::with_seat` meets its contract: a seat's place is 2 to the seat's number, which a shift in 16 bits leaves whole.
 -- Assumes nothing.
-use mathlib.Core.Path.{sym}
-use Prim.Native.Nat.{ℕ, _+_, _^_, _≤_, _<_}
 use native.Mathlib.Omega.{arith}
 use borrow.Author.Needs.{needs}
 use Rattle.construction.proofs.SetSteps.{place-fits, place-whole}

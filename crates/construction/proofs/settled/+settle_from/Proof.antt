@@ -7,8 +7,8 @@ use Rattle.construction.proofs.SettleSteps.{next-found, next-shrinks, n
 use Rattle.construction.specs.Counts.{farmFor}
 use Rattle.farm.specs.Sets.{size}
 use native.Mathlib.Omega.{arith}
-use mathlib.Core.Path.{_≡_, refl, sym, _∙_, ap}
-use Prim.Native.Nat.{ℕ, _<_, zero-le, suc, _+_, _*_, _-_, _≤_}
+use mathlib.Core.Path.{_≡_, _∙_, ap}
+use Prim.Native.Nat.{ℕ, _<_, _+_, _-_, _≤_}
 use borrow.Fn.Kinds.{In}
 use borrow.Fn.PlainCycle.{Measures, is, falls, and}
 use Rattle.construction.proofs.settled.settle_from.Reads as settle-from

@@ -4,8 +4,8 @@ use Rattle.construction.proofs.SettleSteps.{own-shrinks, answer-over, a
 use Rattle.construction.specs.Counts.{farmFor}
 use Rattle.farm.specs.Sets.{size}
 use native.Mathlib.Omega.{arith}
-use Prim.Native.Nat.{ℕ, zero-le, suc, _+_, _*_, _-_, _≤_, _<_}
-use mathlib.Core.Path.{_≡_, refl, sym, _∙_, ap}
+use Prim.Native.Nat.{_≤_}
+use mathlib.Core.Path.{_≡_}
 use borrow.Author.Needs.{needs}
 use Rattle.construction.proofs.settled.settle.Statement.{statement}
 use Rattle.construction.proofs.settled.settle.Tie as tie

@@ -2,8 +2,6 @@
 -- Assumes nothing.
 use Rattle.construction.proofs.SettleSteps.{back-fits, back-is}
 use native.Mathlib.Omega.{arith}
-use Prim.Native.Nat.{ℕ, zero-le, suc, _+_, _*_, _-_, _≤_, _<_}
-use mathlib.Core.Path.{_≡_, refl, sym, _∙_, ap}
 use borrow.Author.Needs.{needs}
 use Rattle.construction.proofs.settled.time_back.Statement.{statement}
 use Rattle.construction.proofs.settled.time_back.Tie as tie

@@ -1,11 +1,10 @@
 -- `construction::views::fill_view` meets its contract: before seat q the table has p's counts of the seats below q.
 -- Assumes nothing.
 use Rattle.construction.proofs.ViewSteps.{fill-turn, fill-end}
-use Rattle.construction.specs.Counts.{room, viewsTo, countsTo, farmFor}
-use Rattle.knowledge.specs.Farm.{farmOf}
+use Rattle.construction.specs.Counts.{room, countsTo, farmFor}
 use native.Mathlib.Omega.{arith}
-use Prim.Native.Nat.{ℕ, zero-le, suc, _+_, _*_, _-_, _≤_, _<_}
-use mathlib.Core.Path.{_≡_, refl, sym, _∙_, ap}
+use Prim.Native.Nat.{ℕ, zero-le, suc, _+_, _*_, _-_, _≤_}
+use mathlib.Core.Path.{_≡_, refl, _∙_, ap}
 use borrow.Author.Needs.{needs}
 use Rattle.construction.proofs.views.fill_view.Statement.{statement}
 use Rattle.construction.proofs.views.fill_view.Tie as tie

@@ -5,8 +5,8 @@ use Rattle.construction.specs.Counts.{viewsTo, firstCounts}
 use Rattle.knowledge.specs.Farm.{farmOf}
 use mathlib.Core.List.{[]}
 use native.Mathlib.Omega.{arith}
-use Prim.Native.Nat.{ℕ, zero-le, suc, _+_, _*_, _-_, _≤_, _<_}
-use mathlib.Core.Path.{_≡_, refl, sym, _∙_, ap}
+use Prim.Native.Nat.{zero-le, _-_, _≤_}
+use mathlib.Core.Path.{_≡_, _∙_, ap}
 use borrow.Author.Needs.{needs}
 use Rattle.construction.proofs.views.first_views.Statement.{statement}
 use Rattle.construction.proofs.views.first_views.Tie as tie

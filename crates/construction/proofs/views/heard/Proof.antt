@@ -2,8 +2,8 @@
 -- Assumes nothing.
 use Rattle.construction.proofs.ViewSteps.{heardBelow, heard-none, heard-below, heard-more, heard-all}
 use native.Mathlib.Omega.{arith}
-use Prim.Native.Nat.{ℕ, zero-le, suc, _+_, _*_, _-_, _≤_, _<_}
-use mathlib.Core.Path.{_≡_, refl, sym, _∙_, ap}
+use Prim.Native.Nat.{zero-le, suc, _-_, _≤_}
+use mathlib.Core.Path.{_≡_}
 use borrow.Author.Needs.{needs}
 use Rattle.construction.proofs.views.heard.Statement.{statement}
 use Rattle.construction.proofs.views.heard.Tie as tie

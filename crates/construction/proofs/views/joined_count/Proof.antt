@@ -1,25 +1,24 @@
 -- `construction::views::joined_count` meets its contract: before seat p the count is that of the joined views of the seats below p.
 -- Assumes nothing.
-use Rattle.construction.proofs.ViewSteps.{joined-none, joined-more, joined-turn}
+use Rattle.construction.proofs.ViewSteps.{joined-none, joined-turn, rest-none, rest-more}
 use Rattle.construction.specs.Counts.{viewIn}
 use Rattle.knowledge.specs.Views.{joined}
 use Rattle.farm.specs.Sets.{bit}
-use mathlib.Core.Bool.{cond}
 use native.Mathlib.Omega.{arith}
-use Prim.Native.Nat.{ℕ, zero-le, suc, _+_, _*_, _-_, _≤_, _<_}
-use mathlib.Core.Path.{_≡_, refl, sym, _∙_, ap}
+use Prim.Native.Nat.{ℕ, zero-le, _-_, _≤_, _/_, _^_}
+use mathlib.Core.Path.{_≡_, _∙_, ap}
 use borrow.Author.Needs.{needs}
 use Rattle.construction.proofs.views.joined_count.Statement.{statement}
 use Rattle.construction.proofs.views.joined_count.Tie as tie
 
 abbrev Inv-loop : tie.InvT-loop
-Inv-loop views seats set of count₀ p₀ count p = (p ≤ seats) × (count ≡ joined p (bit set) (viewIn views) (of .0))
+Inv-loop views seats set of count₀ rest₀ p₀ count rest p = (p ≤ seats) × (rest ≡ set / 2 ^ p) × (count ≡ joined p (bit set) (viewIn views) (of .0))
 
 abbrev μ-loop : tie.MeasureT-loop
-μ-loop views seats set of count₀ p₀ count p = seats - p
+μ-loop views seats set of count₀ rest₀ p₀ count rest p = seats - p
 
 loop-holds : tie.Need-loop-holds Inv-loop μ-loop
-loop-holds c = (zero-le, joined-none (bit (c .args .set)) (viewIn (c .args .views .now)) (c .args .of .0))
+loop-holds c = let a = c .args in (zero-le, rest-none (a .set), joined-none (bit (a .set)) (viewIn (a .views .now)) (a .of .0))
 
 cast-at : tie.Need-cast-at Inv-loop μ-loop
 cast-at c = search needs
@@ -32,9 +31,6 @@ cast-at-2 c = search needs
 
 add-at : tie.Need-add-at Inv-loop μ-loop
 add-at c = search needs
-
-holds-requires : tie.Need-holds-requires Inv-loop μ-loop
-holds-requires c κs = search needs
 
 mul-larger : tie.Need-mul-larger Inv-loop μ-loop
 mul-larger c = search needs
@@ -53,15 +49,18 @@ loop-less c = search needs
 
 loop-again : tie.Need-loop-again Inv-loop μ-loop
 loop-again c =
-    let l = c .before .before .before .before .before .loop in
-    let a = c .before .before .before .before .before .before .args in (
+    let l = c .before .before .before .before .loop in
+    let a = c .before .before .before .before .before .args in (
       omega arith,
-      joined-turn (l .p) (a .set) (a .views .now) (a .of .0) (l .count) (c .before .before .holds .result) (c .larger .result)
-          (l .inv .1) (c .before .before .holds .ensures) (c .larger .ensures),
+      rest-more (a .set) (l .rest) (l .p) (l .inv .1),
+      joined-turn (l .p) (a .set) (l .rest) (a .views .now) (a .of .0) (l .count) (c .larger .result) (l .inv .2) (l .inv .1) (c .larger .ensures),
     )
 
 returns : tie.Need-returns Inv-loop μ-loop
-returns c = let e : c .before .loop .p ≡ c .before .before .args .seats = omega arith in cc
+returns c =
+    let a = c .before .before .args in
+    let e : c .before .loop .p ≡ a .seats = omega arith in
+    c .before .loop .inv .2 ∙ ap (λ (p : ℕ). joined p (bit (a .set)) (viewIn (a .views .now)) (a .of .0)) e
 
 pub joined-count-spec : {M : Type 1} → statement M
 joined-count-spec =
@@ -74,7 +73,6 @@ joined-count-spec =
     mul-at
     cast-at-2
     add-at
-    holds-requires
     mul-larger
     element-copy-out-larger
     larger-requires

@@ -5,8 +5,8 @@ use Rattle.construction.specs.Counts.{room, counts, filled, viewIn}
 use Rattle.knowledge.specs.Views.{joined}
 use Rattle.farm.specs.Sets.{bit}
 use native.Mathlib.Omega.{arith}
-use Prim.Native.Nat.{ℕ, zero-le, suc, _+_, _*_, _-_, _≤_, _<_}
-use mathlib.Core.Path.{_≡_, refl, sym, _∙_, ap}
+use Prim.Native.Nat.{ℕ, zero-le, _-_, _≤_}
+use mathlib.Core.Path.{_≡_, _∙_, ap}
 use borrow.Author.Needs.{needs}
 use Rattle.construction.proofs.views.joined_view.Statement.{statement}
 use Rattle.construction.proofs.views.joined_view.Tie as tie

@@ -2,8 +2,6 @@
 -- Assumes nothing.
 use borrow.Author.Tests.{not-true, not-false}
 use native.Mathlib.Omega.{arith}
-use Prim.Native.Nat.{ℕ, zero-le, suc, _+_, _*_, _-_, _≤_, _<_}
-use mathlib.Core.Path.{_≡_, refl, sym, _∙_, ap}
 use Rattle.construction.proofs.views.larger.Statement.{statement}
 use Rattle.construction.proofs.views.larger.Tie as tie
 

@@ -1,11 +1,10 @@
 -- `construction::views::next_views` meets its contract: before seat p the table has the views of the seats below p.
 -- Assumes nothing.
 use Rattle.construction.proofs.ViewSteps.{counts-none, views-more}
-use Rattle.construction.specs.Counts.{viewsTo, countsTo, farmFor}
-use native.Mathlib.Numerals.{add-one}
+use Rattle.construction.specs.Counts.{viewsTo, farmFor}
 use native.Mathlib.Omega.{arith}
-use Prim.Native.Nat.{ℕ, zero-le, suc, _+_, _*_, _-_, _≤_, _<_}
-use mathlib.Core.Path.{_≡_, refl, sym, _∙_, ap}
+use Prim.Native.Nat.{zero-le, suc, _-_, _≤_}
+use mathlib.Core.Path.{_≡_, refl, _∙_, ap}
 use borrow.Author.Needs.{needs}
 use Rattle.construction.proofs.views.next_views.Statement.{statement}
 use Rattle.construction.proofs.views.next_views.Tie as tie

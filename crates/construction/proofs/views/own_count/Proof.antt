@@ -1,9 +1,6 @@
 -- `construction::views::own_count` meets its contract: the view of a place alone.
 -- Assumes nothing.
 use Rattle.construction.proofs.ViewSteps.{own-here, own-elsewhere}
-use native.Mathlib.Omega.{arith}
-use Prim.Native.Nat.{ℕ, zero-le, suc, _+_, _*_, _-_, _≤_, _<_}
-use mathlib.Core.Path.{_≡_, refl, sym, _∙_, ap}
 use borrow.Author.Needs.{needs}
 use Rattle.construction.proofs.views.own_count.Statement.{statement}
 use Rattle.construction.proofs.views.own_count.Tie as tie

@@ -3,8 +3,8 @@
 use Rattle.construction.proofs.CountLaws.{filled-none, filled-turn}
 use Rattle.construction.specs.Counts.{room, counts, filled, viewIn}
 use native.Mathlib.Omega.{arith}
-use Prim.Native.Nat.{ℕ, zero-le, suc, _+_, _*_, _-_, _≤_, _<_}
-use mathlib.Core.Path.{_≡_, refl, sym, _∙_, ap}
+use Prim.Native.Nat.{ℕ, zero-le, _-_, _≤_}
+use mathlib.Core.Path.{_≡_, refl, _∙_, ap}
 use borrow.Author.Needs.{needs}
 use Rattle.construction.proofs.views.seat_view.Statement.{statement}
 use Rattle.construction.proofs.views.seat_view.Tie as tie

@@ -2,9 +2,7 @@
 -- Assumes nothing.
 use Rattle.construction.proofs.ViewSteps.{joined-view-is}
 use Rattle.construction.specs.Counts.{farmFor}
-use native.Mathlib.Omega.{arith}
-use Prim.Native.Nat.{ℕ, zero-le, suc, _+_, _*_, _-_, _≤_, _<_}
-use mathlib.Core.Path.{_≡_, refl, sym, _∙_, ap}
+use mathlib.Core.Path.{_∙_}
 use borrow.Author.Needs.{needs}
 use Rattle.construction.proofs.views.view_of_set.Statement.{statement}
 use Rattle.construction.proofs.views.view_of_set.Tie as tie

@@ -4,8 +4,8 @@ use Rattle.construction.proofs.ViewSteps.{first-of-any}
 use Rattle.construction.specs.Counts.{allCounts, farmFor}
 use native.Mathlib.Numerals.{add-one}
 use native.Mathlib.Omega.{arith}
-use Prim.Native.Nat.{ℕ, zero-le, suc, _+_, _*_, _-_, _≤_, _<_}
-use mathlib.Core.Path.{_≡_, refl, sym, _∙_, ap}
+use Prim.Native.Nat.{zero-le, _-_, _≤_}
+use mathlib.Core.Path.{_≡_, sym, _∙_, ap}
 use borrow.Author.Needs.{needs}
 use Rattle.construction.proofs.views.views_at.Statement.{statement}
 use Rattle.construction.proofs.views.views_at.Tie as tie
