@@ -7,7 +7,7 @@ use Prim.Native.Nat.{ℕ, zero, suc, _+_, _≤_, _<_}
 use native.Mathlib.Nat.{not-suc-le-zero, eq-or-lt-of-le}
 use native.Mathlib.Numerals.{add-one}
 use native.Mathlib.Omega.{arith}
-use lib.ListN.{length, getD, set, replicate, length-append, length-set, length-replicate, getD-replicate, List·getD-append}
+use lib.ListN.{length, getD, set, replicate, length-append, length-set, length-replicate, getD-replicate, List·getD-append, List·getD-eq-default}
 use lib.Seq.{getD-set-same, getD-set-other, ext-getD, getD-at}
 use borrow.Author.Tests.{lt-ltb, le-ltb}
 use Rattle.farm.proofs.Cases.{less-or-not, equal-or-not}
@@ -33,6 +33,9 @@ getD-tabulate (suc m) f i h = by (getD-tabulate m f i) (eq-or-lt-of-le h)
         let short : i < m = omega arith in
         let here : i < length (tabulate m f) = rw (length-tabulate m f) short in
         List·getD-append (tabulate m f) (f m ∷ []) 0 i here ∙ before short
+
+pub getD-past : (m : ℕ) (f : ℕ → ℕ) (i : ℕ) → m ≤ i → getD (tabulate m f) i 0 ≡ 0
+getD-past m f i h = List·getD-eq-default (tabulate m f) 0 (rw (length-tabulate m f) h)
 
 -- A list is tabulated by whatever gives each of its entries.
 pub is-tabulated : (m : ℕ) (f : ℕ → ℕ) (l : List ℕ) → length l ≡ m → ((i : ℕ) → i < m → getD l i 0 ≡ f i) → l ≡ tabulate m f

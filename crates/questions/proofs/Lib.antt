@@ -1,1 +1,8 @@
 pub mod Examples
+pub mod BufferLaws
+pub mod TimeLaws
+pub mod AskLaws
+pub mod CompleteLaws
+pub mod CoreLaws
+pub mod MarkLaws
+pub mod RecordLaws

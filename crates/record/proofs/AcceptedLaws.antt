@@ -1,13 +1,13 @@
 -- What the answers of the judging code tell, what is known of accepted lists, and what the answers about length and room mean.
 -- Assumes nothing.
-use mathlib.Core.Path.{_≡_, refl, sym, _∙_, ap}
-use mathlib.Core.Bool.{true}
+use mathlib.Core.Path.{_≡_, refl, _∙_, ap}
+use mathlib.Core.Bool.{true, false}
 use mathlib.Core.List.{List, [], _∷_}
 use Prim.Native.Nat.{ℕ, zero, suc, _+_, _^_, _<_, _≤_}
 use native.Mathlib.Nat.{zero-add}
 use native.Mathlib.Omega.{arith}
+use lib.Dec.{leb}
 use lib.ListN.{length, getD, length-append}
-use borrow.Author.Tests.{lt-leb, le-leb}
 use Rattle.farm.specs.Limits.{Limits, limits}
 use Rattle.farm.specs.declared.refusals.Refusal.{Refusal}
 use Rattle.farm.specs.declared.refusals.Refusal.the-variants.{OutOfRange, BadLengths, NoRoom}
@@ -20,7 +20,7 @@ use Rattle.record.specs.declared.writing.Written.the-variants.{Length, R
 use Rattle.record.specs.Header.{headerBytes}
 use Rattle.record.specs.Losses.{lossBytes}
 use Rattle.record.specs.Edits.{follows, editsBytes}
-use Rattle.record.specs.Record.{Reading, good, bad, bytesOf}
+use Rattle.record.specs.Record.{good, bytesOf}
 use Rattle.record.specs.Good.{goodEdit, goodEdits}
 use Rattle.record.specs.Tables.{Tables, cellsOf}
 use Rattle.record.specs.Writing.{Verdict, accepted, faulty, headerFrom, editsIn, judgedLists, recordFrom, judged, checkedLists, count, unwritten, needed, neededBy, answered, writtenTo, bufferWith, bufferAfter}
@@ -109,39 +109,24 @@ pub record Outcome (L : Limits) (n t R : ℕ) (lists : Tables) (old : List ℕ) 
   pub leaves : buffer ≡ bufferAfter L n t R lists old
 
 module _ (L : Limits) (n t R : ℕ) (lists : Tables) where
-  pub refused-outcome : (w : Written) (r : Refusal) (old : List ℕ) → w ≡ writtenIn (neededBy L n t R lists) → w ≡ NotWritten r
-      → Outcome L n t R lists old w old
-  unfolding writtenIn neededBy needed writtenTo answered bufferAfter bufferWith
-  refused-outcome w r old e f = by (checkedLists L n t R lists) refl (sym f ∙ e)
-    where
-      by : (x : Reading) → checkedLists L n t R lists ≡ x → NotWritten r ≡ writtenIn (needed L x) → Outcome L n t R lists old w old
-      by (good s) p q = let z : _≡_ {A = ℕ} 0 1 = cc in absurd (omega arith)
-      by (bad s) p q = record { answers = f ∙ rw p q; leaves = rw p }
-
-  pub counted-accepted : (k : ℕ) → writtenIn (neededBy L n t R lists) ≡ Length k
-      → (judgedLists L n t R lists ≡ accepted) × (k ≡ length (bytesOf L (recordFrom n t R lists)))
-  unfolding writtenIn neededBy needed checkedLists judged
-  counted-accepted k e = by (judgedLists L n t R lists) refl e
-    where
-      by : (v : Verdict) → judgedLists L n t R lists ≡ v → writtenIn (needed L (judged (recordFrom n t R lists) v)) ≡ Length k
-          → (judgedLists L n t R lists ≡ accepted) × (k ≡ length (bytesOf L (recordFrom n t R lists)))
-      by accepted p q = (p, (cc))
-      by (faulty r) p q = let z : _≡_ {A = ℕ} 0 1 = cc in absurd (omega arith)
+  pub refused-outcome : (r : Refusal) (old : List ℕ) → judgedLists L n t R lists ≡ faulty r → Outcome L n t R lists old (NotWritten r) old
+  unfolding writtenIn writtenTo answered bufferAfter bufferWith checkedLists judged
+  refused-outcome r old e = record { answers = rw e; leaves = rw e }
 
   module _ (v : judgedLists L n t R lists ≡ accepted) (old : List ℕ) where
-    pub no-room-outcome : length old < length (bytesOf L (recordFrom n t R lists)) → Outcome L n t R lists old (NotWritten NoRoom) old
+    pub no-room-outcome : leb (length (bytesOf L (recordFrom n t R lists))) (length old) ≡ false → Outcome L n t R lists old (NotWritten NoRoom) old
     unfolding writtenIn writtenTo answered bufferAfter bufferWith checkedLists judged
     no-room-outcome h =
         record {
-          answers = rw (v, lt-leb (length (bytesOf L (recordFrom n t R lists))) (length old) h);
-          leaves = rw (v, lt-leb (length (bytesOf L (recordFrom n t R lists))) (length old) h);
+          answers = rw (v, h);
+          leaves = rw (v, h);
         }
 
-    pub written-outcome : (k : ℕ) (buffer : List ℕ) → length (bytesOf L (recordFrom n t R lists)) ≤ length old
+    pub written-outcome : (k : ℕ) (buffer : List ℕ) → leb (length (bytesOf L (recordFrom n t R lists))) (length old) ≡ true
         → Put 0 (bytesOf L (recordFrom n t R lists)) old k buffer → Outcome L n t R lists old (Length k) buffer
     unfolding writtenIn writtenTo answered bufferAfter bufferWith checkedLists judged
     written-outcome k buffer h put =
         record {
-          answers = rw (v, le-leb (length (bytesOf L (recordFrom n t R lists))) (length old) h) (ap Length (put .ends ∙ zero-add _));
-          leaves = rw (v, le-leb (length (bytesOf L (recordFrom n t R lists))) (length old) h) (put .holds);
+          answers = rw (v, h) (ap Length (put .ends ∙ zero-add _));
+          leaves = rw (v, h) (put .holds);
         }

@@ -6,6 +6,7 @@ use crate::judging::judge;
 use farm::refusals::Refusal;
 ghost use mathlib.Core.Path.{_≡_};
 ghost use Prim.Native.Nat.{ℕ, _+_, _^_, _<_, _≤_};
+ghost use lib.Dec.{leb};
 ghost use lib.ListN.{length, getD};
 ghost use Rattle.farm.specs.Limits.{limits};
 ghost use Rattle.record.specs.Numbers.{numberBytes};
@@ -17,6 +18,9 @@ ghost use Rattle.record.specs.Tables.{editOf, editsFrom};
 ghost use Rattle.record.specs.Placing.{Put};
 ghost use Rattle.record.specs.Writing.{accepted, judgedLists, recordFrom, neededBy, writtenTo, bufferAfter};
 ghost use Rattle.record.specs.Answers.{listsOf, writtenIn};
+
+// The longest good record has this many bytes (document 01, "The record").
+const LONGEST_RECORD: usize = 4_990;
 
 pub enum Written {
     // How many bytes the record has.
@@ -82,6 +86,46 @@ fn edits_length<'a>(
     total
 }
 
+// How many bytes accepted lists take.
+fn accepted_length<'a>(
+    seats: u8,
+    bound: u8,
+    rounds: u16,
+    losses: &'a [u16],
+    editors: &'a [u8],
+    times: &'a [u16],
+    cells: &'a [u32],
+    changes: &'a [i16],
+) -> usize
+    requires { ⌜ judgedLists limits seats bound rounds (listsOf (now losses) (now editors) (now times) (now cells) (now changes)) ≡ accepted ⌝ }
+    ensures { λ r. ⌜ r ≡ length (bytesOf limits (recordFrom seats bound rounds (listsOf (now (losses .entry)) (now (editors .entry)) (now (times .entry)) (now (cells .entry)) (now (changes .entry))))) ⌝ }
+{
+    let header = header_length(seats, bound, rounds, editors.len());
+    let before_edits = header + losses_length(losses);
+    before_edits + edits_length(editors, times, cells, changes)
+}
+
+// Whether accepted lists fit a buffer. One that any good record fits spares the counting.
+fn has_room<'a>(
+    room: usize,
+    seats: u8,
+    bound: u8,
+    rounds: u16,
+    losses: &'a [u16],
+    editors: &'a [u8],
+    times: &'a [u16],
+    cells: &'a [u32],
+    changes: &'a [i16],
+) -> bool
+    requires { ⌜ judgedLists limits seats bound rounds (listsOf (now losses) (now editors) (now times) (now cells) (now changes)) ≡ accepted ⌝ }
+    ensures { λ r. ⌜ r ≡ leb (length (bytesOf limits (recordFrom seats bound rounds (listsOf (now (losses .entry)) (now (editors .entry)) (now (times .entry)) (now (cells .entry)) (now (changes .entry)))))) room ⌝ }
+{
+    if LONGEST_RECORD <= room {
+        return true;
+    }
+    accepted_length(seats, bound, rounds, losses, editors, times, cells, changes) <= room
+}
+
 // The length that writing these lists needs, with the refusals of writing but for the room.
 pub fn length<'a>(
     seats: u8,
@@ -99,9 +143,8 @@ pub fn length<'a>(
     if let Judged::Refused(refusal) = judged {
         return Written::Refused(refusal);
     }
-    let header = header_length(seats, bound, rounds, editors.len());
-    let before_edits = header + losses_length(losses);
-    Written::Length(before_edits + edits_length(editors, times, cells, changes))
+    let count = accepted_length(seats, bound, rounds, losses, editors, times, cells, changes);
+    Written::Length(count)
 }
 
 // Puts a number in its shortest form, and answers where the next one goes.
@@ -213,11 +256,22 @@ pub fn write<'a>(
 ) -> Written
     ensures { λ r. ⌜ (r ≡ writtenIn (writtenTo limits seats bound rounds (listsOf (now (losses .entry)) (now (editors .entry)) (now (times .entry)) (now (cells .entry)) (now (changes .entry))) (length (now (out .entry))))) × (now (out .exit) ≡ bufferAfter limits seats bound rounds (listsOf (now (losses .entry)) (now (editors .entry)) (now (times .entry)) (now (cells .entry)) (now (changes .entry))) (now (out .entry))) ⌝ }
 {
-    let needed = length(seats, bound, rounds, losses, editors, times, cells, changes);
-    let Written::Length(count) = needed else {
-        return needed;
-    };
-    if out.len() < count {
+    let judged = judge(seats, bound, rounds, losses, editors, times, cells, changes);
+    if let Judged::Refused(refusal) = judged {
+        return Written::Refused(refusal);
+    }
+    let room = out.len();
+    if !has_room(
+        room,
+        seats,
+        bound,
+        rounds,
+        losses,
+        editors,
+        times,
+        cells,
+        changes,
+    ) {
         return Written::Refused(Refusal::NoRoom);
     }
     let end = put_record(

@@ -1,0 +1,145 @@
+-- An accepted call leads from a good record to a good record.
+-- Assumes nothing.
+use mathlib.Core.Path.{_≡_, refl, sym, _∙_, ap}
+use mathlib.Core.Bool.{Bool, true, false, _&&_, true≢false}
+use mathlib.Core.List.{List, [], _∷_, _++_}
+use Prim.Native.Nat.{ℕ, zero, suc, _+_, _-_, _*_, _≤_, _<_}
+use native.Mathlib.Nat.{mul-zero, mul-suc, zero-add, not-suc-le-zero}
+use native.Mathlib.Omega.{arith}
+use lib.Dec.{eqb, ltb}
+use lib.ListN.{length, length-append}
+use borrow.Author.Tests.{eq-eqb, ne-eqb, ltb-true, eqb-true}
+use Rattle.farm.specs.Limits.{Limits, limits}
+use Rattle.farm.specs.Sets.{Seats}
+use Rattle.farm.proofs.Cases.{and-intro, and-elim}
+use Rattle.farm.specs.declared.refusals.Refusal.{Refusal}
+use Rattle.record.specs.declared.edits.Edit.{Edit}
+use Rattle.record.specs.declared.edits.Before.{Before}
+use Rattle.record.specs.declared.edits.Before.the-variants.{Nothing, This}
+use Rattle.record.specs.Edits.{follows}
+use Rattle.record.specs.Losses.{goodSet}
+use Rattle.record.specs.Good.{senderAfter, goodHeader, goodSets, goodEdit, goodEdits, goodRecord}
+use Rattle.record.specs.Record.{Record}
+use Rattle.record.specs.Writing.{Verdict, accepted, unless}
+use Rattle.record.proofs.GoodLaws.{header-facts, header-from-facts, edit-facts, edit-from-facts, RecordFacts, record-from-facts}
+use Rattle.live.specs.Calls.{openedRecord, withRound, withEdit, lastOf, openingVerdict, roundVerdict, editVerdict}
+
+-- ════ Verdicts ════
+
+-- Where the verdict is to accept, the test passed and so did the rest.
+pub unless-accepted : (test : Bool) (r : Refusal) (later : Verdict) → unless test r later ≡ accepted → (test ≡ true) × (later ≡ accepted)
+unfolding unless
+unless-accepted true r later e = (refl, e)
+unless-accepted false r later e = absurd (true≢false (cc))
+
+-- ════ Senders ════
+
+-- The sender after so many sets.
+senderIn : (n sender count : ℕ) → ℕ
+senderIn n sender zero = sender
+senderIn n sender (suc count) = senderIn n (senderAfter n sender) count
+
+sender-adds : (n a b sender : ℕ) → senderIn n sender (a + b) ≡ senderIn n (senderIn n sender a) b
+unfolding senderIn
+sender-adds n zero b sender = rw (zero-add b)
+sender-adds n (suc a) b sender = let e : suc a + b ≡ suc (a + b) = omega arith in rw e (sender-adds n a b (senderAfter n sender))
+
+-- The rest of a round leads back to the first sender.
+round-ends : (n left sender : ℕ) → sender + suc left ≡ n → senderIn n sender (suc left) ≡ 0
+unfolding senderIn senderAfter
+round-ends n zero sender e = rw (eq-eqb (suc sender) n (omega arith))
+round-ends n (suc left) sender e =
+    rw (ne-eqb (suc sender) n (λ f. omega arith)) (round-ends n left (suc sender) (omega arith))
+
+rounds-end : (n R : ℕ) → 0 < n → senderIn n 0 (n * R) ≡ 0
+unfolding senderIn
+rounds-end zero R h = absurd (not-suc-le-zero h)
+rounds-end (suc n) zero h = rw mul-zero
+rounds-end (suc n) (suc R) h =
+    rw (mul-suc (suc n) R, sender-adds (suc n) (suc n * R) (suc n) 0, rounds-end (suc n) R h) (round-ends (suc n) n 0 (zero-add (suc n)))
+
+sets-append : (n sender : ℕ) (a b : List Seats) → goodSets n sender a ≡ true → goodSets n (senderIn n sender (length a)) b ≡ true
+    → goodSets n sender (a ++ b) ≡ true
+unfolding goodSets senderIn
+sets-append n sender [] b p q = q
+sets-append n sender (x ∷ a) b p q =
+    let both = and-elim (goodSet n sender x) (goodSets n (senderAfter n sender) a) p in
+    and-intro (goodSet n sender x) (goodSets n (senderAfter n sender) (a ++ b)) (both .0)
+    (sets-append n (senderAfter n sender) a b (both .1) q)
+
+-- ════ Edits ════
+
+-- What was good with fewer rounds is good with one more.
+edits-with-round : (L : Limits) (n R : ℕ) (before : Before) (edits : List Edit) → goodEdits L n R before edits ≡ true
+    → goodEdits L n (R + 1) before edits ≡ true
+unfolding goodEdits
+edits-with-round L n R before [] h = refl
+edits-with-round L n R before (e ∷ edits) h =
+    let a = and-elim _ _ h in
+    let b = and-elim _ _ (a .0) in
+    let f = edit-facts L n R e (b .0) in
+    let later : e .time .0 ≤ R + 1 = omega (arith, f .time) in
+    and-intro _ _
+    (and-intro _ _ (edit-from-facts L n (R + 1) e (record { seat = f .seat; time = later; cell = f .cell; change = f .change })) (b .1))
+    (edits-with-round L n R (This e) edits (a .1))
+
+edits-append : (L : Limits) (n R : ℕ) (before : Before) (edits : List Edit) (e : Edit) → goodEdits L n R before edits ≡ true
+    → goodEdit L n R e ≡ true → follows (lastOf before edits) e ≡ true → goodEdits L n R before (edits ++ (e ∷ [])) ≡ true
+unfolding goodEdits lastOf
+edits-append L n R before [] e h g f = and-intro _ _ (and-intro _ _ g f) refl
+edits-append L n R before (x ∷ edits) e h g f =
+    let a = and-elim (goodEdit L n R x && follows before x) (goodEdits L n R (This x) edits) h in
+    and-intro (goodEdit L n R x && follows before x) (goodEdits L n R (This x) (edits ++ (e ∷ []))) (a .0) (edits-append L n R (This x) edits e (a .1) g f)
+
+-- ════ The three calls ════
+
+pub opened-good : (n t : ℕ) → openingVerdict n t ≡ accepted → goodRecord limits (openedRecord n t) ≡ true
+unfolding openingVerdict goodSets goodEdits
+opened-good n t v =
+    record-from-facts limits (openedRecord n t) (record {
+      header = unless-accepted _ _ _ v .0;
+      lossCount = sym (mul-zero n);
+      losses = refl;
+      editCount = refl;
+      edits = refl;
+    })
+
+pub round-length : (sets : List Seats) (r : Record) → roundVerdict sets r ≡ accepted → length sets ≡ r .header .seats
+unfolding roundVerdict
+round-length sets r v = eqb-true _ _ (unless-accepted _ _ _ (unless-accepted _ _ _ v .1) .0)
+
+pub round-good : (sets : List Seats) (r : Record) → RecordFacts limits r → roundVerdict sets r ≡ accepted
+    → goodRecord limits (withRound sets r) ≡ true
+unfolding roundVerdict
+round-good sets r f v =
+    let room = unless-accepted _ _ _ v in
+    let fits = unless-accepted _ _ _ (room .1) in
+    let sound = unless-accepted _ _ _ (fits .1) in
+    let h = header-facts limits (r .header) (f .header) in
+    let less : r .header .rounds < limits .mostRounds = ltb-true _ _ (room .0) in
+    let long = round-length sets r v in
+    record-from-facts limits (withRound sets r) (record {
+      header = header-from-facts limits (withRound sets r .header) (record { fewest = h .fewest; most = h .most; bound = h .bound; rounds = omega arith; edits = h .edits });
+      lossCount = rw (length-append, f .lossCount, long) (omega arith);
+      losses =
+          sets-append (r .header .seats) 0 (r .losses) sets (f .losses)
+          (rw (f .lossCount, rounds-end (r .header .seats) (r .header .rounds) (omega (arith, h .fewest))) (sound .0));
+      editCount = f .editCount;
+      edits = edits-with-round limits (r .header .seats) (r .header .rounds) Nothing (r .edits) (f .edits);
+    })
+
+pub edit-good : (e : Edit) (r : Record) → RecordFacts limits r → editVerdict e r ≡ accepted → goodRecord limits (withEdit e r) ≡ true
+unfolding editVerdict
+edit-good e r f v =
+    let fits = unless-accepted _ _ _ v in
+    let room = unless-accepted _ _ _ (fits .1) in
+    let rising = unless-accepted _ _ _ (room .1) in
+    let h = header-facts limits (r .header) (f .header) in
+    let less : r .header .edits < limits .mostEdits = ltb-true _ _ (room .0) in
+    record-from-facts limits (withEdit e r) (record {
+      header = header-from-facts limits (withEdit e r .header) (record { fewest = h .fewest; most = h .most; bound = h .bound; rounds = h .rounds; edits = omega arith });
+      lossCount = f .lossCount;
+      losses = f .losses;
+      editCount = rw (length-append, f .editCount);
+      edits = edits-append limits (r .header .seats) (r .header .rounds) Nothing (r .edits) e (f .edits) (fits .0) (rising .0);
+    })

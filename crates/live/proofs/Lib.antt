@@ -1,0 +1,16 @@
+pub mod ListLaws
+pub mod GoodSteps
+pub mod RunLaws
+pub mod StepLaws
+pub mod Frames
+pub mod Thin
+pub mod Handed
+pub mod Enters
+pub mod Changed
+pub mod Asked
+pub mod Picks
+pub mod Picked
+pub mod Live
+pub mod Parts
+pub mod Stepped
+pub mod CompleteLaws

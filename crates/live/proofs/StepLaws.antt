@@ -1,0 +1,336 @@
+-- What each test of the code on a table decides: one law for each way that a call ends.
+-- Assumes nothing.
+use mathlib.Core.Path.{_≡_, refl, sym, _∙_, ap, subst}
+use mathlib.Core.Bool.{Bool, true, false, true≢false, _&&_}
+use mathlib.Core.List.{List, [], _∷_, _++_}
+use Prim.Native.Nat.{ℕ, zero, suc, _+_, _-_, _*_, _^_, _≤_, _<_}
+use native.Mathlib.Nat.{mul-le-mul}
+use native.Mathlib.Omega.{arith}
+use lib.Dec.{eqb}
+use lib.IntN.{ℤ, pos, negsuc}
+use lib.ListN.{length, take, getD, set}
+use lib.Seq.{length-take-le, take-suc}
+use mir.Syntax.{w16}
+use mir.Val.{SFits}
+use borrow.Author.Tests.{le-ltb, lt-ltb}
+use Rattle.farm.specs.Limits.{limits}
+use Rattle.farm.specs.Sets.{Seats}
+use Rattle.farm.specs.declared.places.Seat.{Seat}
+use Rattle.farm.specs.declared.refusals.Refusal.{Refusal}
+use Rattle.farm.specs.declared.refusals.Refusal.the-variants.{OutOfRange, BadOrder, RoundsFull, EditsFull, BadTable}
+use Rattle.record.specs.Answers.{listsOf}
+use Rattle.record.specs.Changes.{mapped}
+use Rattle.record.specs.Columns.{tablesOf}
+use Rattle.record.specs.Edits.{follows}
+use Rattle.record.specs.Good.{goodHeader, goodEdit, goodRecord}
+use Rattle.record.specs.Record.{Record, Reading, good, bad}
+use Rattle.record.specs.Tables.{Tables, editOf, editsFrom}
+use Rattle.record.specs.Writing.{Verdict, accepted, faulty, unless, headerFrom, fitting, judgedEdits, recordFrom, judgedLists, judged, checkedLists}
+use Rattle.record.specs.declared.edits.Before.{Before}
+use Rattle.record.specs.declared.edits.Before.the-variants.{Nothing, This}
+use Rattle.record.specs.declared.edits.Edit.{Edit}
+use Rattle.record.proofs.AcceptedLaws.{checked-good}
+use Rattle.record.proofs.ColumnLaws.{columns-from-edits}
+use Rattle.record.proofs.GoodLaws.{header-facts, header-from-facts, edit-facts, edit-from-facts, record-facts}
+use Rattle.record.proofs.WritingLaws.{lists-accepted, good-lists-accepted}
+use Rattle.questions.specs.Accepted.{Accepted as Accepts}
+use Rattle.questions.specs.Answers.{givenAnswer, into}
+use Rattle.questions.specs.declared.answers.Given.{Given}
+use Rattle.questions.specs.declared.answers.Given.the-variants as Given′
+use Rattle.questions.specs.Question.{Asked, refused, onRecord}
+use Rattle.live.specs.declared.answers.Done.the-variants.{Accepted, Refused}
+use Rattle.live.specs.declared.answers.Step.{Step}
+use Rattle.live.specs.declared.table.Table.{Table}
+use Rattle.live.specs.Answers.{doneOf, refusing}
+use Rattle.live.specs.Calls.{Call, opening, round, edit, emptyHeader, presentEdit, lastOf, openingVerdict, roundVerdict, editVerdict, onTable, verdictOf, behind, Held, added, keptOr, answerTo, tableAfter}
+use Rattle.live.specs.Used.{ArraysLong, tableOf, usedRecord, tableReading}
+use Rattle.live.proofs.ListLaws.{edits-from-append, behind-one}
+use Rattle.live.proofs.RunLaws.{reading-good}
+
+-- ════ Refusal 19 ════
+
+not-so : (b : Bool) → (b ≡ true → ⊥) → b ≡ false
+not-so true h = absurd (h refl)
+not-so false h = refl
+
+-- Sizes past the arrays are no good record's.
+module _ (table : Table) where
+  many-seats : 7 < table .seats → goodRecord limits (usedRecord table) ≡ true → ⊥
+  unfolding usedRecord
+  many-seats h g = let f = header-facts limits _ (record-facts limits (usedRecord table) g .header) in omega arith
+
+  many-rounds : 127 < table .rounds → goodRecord limits (usedRecord table) ≡ true → ⊥
+  unfolding usedRecord
+  many-rounds h g = let f = header-facts limits _ (record-facts limits (usedRecord table) g .header) in omega arith
+
+  many-edits : 512 < table .edits → goodRecord limits (usedRecord table) ≡ true → ⊥
+  unfolding usedRecord
+  many-edits h g = let f = header-facts limits _ (record-facts limits (usedRecord table) g .header) in omega arith
+
+  pub too-many-seats : 7 < table .seats → false ≡ goodRecord limits (usedRecord table)
+  too-many-seats h = sym (not-so _ (many-seats h))
+
+  pub too-many-rounds : 127 < table .rounds → false ≡ goodRecord limits (usedRecord table)
+  too-many-rounds h = sym (not-so _ (many-rounds h))
+
+  pub too-many-edits : 512 < table .edits → false ≡ goodRecord limits (usedRecord table)
+  too-many-edits h = sym (not-so _ (many-edits h))
+
+-- The lists that the used part is cut into.
+module _ (losses : List Seats) (editors times cells : List ℕ) (changes : List ℤ) (long : ArraysLong losses editors times cells changes) (n t R E : ℕ) (held : E ≤ 512) where
+  abbrev lists : Tables
+  lists = listsOf (take (n * R) losses) (take E editors) (take E times) (take E cells) (take E changes)
+
+  abbrev T : Table
+  T = tableOf losses editors times cells changes n t R E
+
+  who : length (take E editors) ≡ E
+  who = length-take-le E editors (omega arith)
+
+  when : length (take E times) ≡ E
+  when = length-take-le E times (omega arith)
+
+  place : length (take E cells) ≡ E
+  place = length-take-le E cells (omega arith)
+
+  height : length (take E changes) ≡ E
+  height = length-take-le E changes (omega arith)
+
+  from : recordFrom n t R lists ≡ usedRecord T
+  unfolding recordFrom usedRecord
+  from = rw who
+
+  back : tablesOf (usedRecord T) ≡ lists
+  unfolding tablesOf usedRecord
+  back =
+      let c = columns-from-edits (take E editors) (take E times) (take E cells) (take E changes) (when ∙ sym who) (place ∙ sym who) (height ∙ sym who) in
+      λ i. record {
+        losses = take (n * R) losses;
+        seats = c .seats-same i;
+        times = c .times-same i;
+        cells = c .cells-same i;
+        changes = c .changes-same i;
+      }
+
+  pub accepted-table : judgedLists limits n t R lists ≡ accepted → true ≡ goodRecord limits (usedRecord T)
+  accepted-table v =
+      sym (subst (λ (r : Record). goodRecord limits r ≡ true) from (lists-accepted limits n t R lists _ (checked-good n t R lists limits v) .sound))
+
+  pub refused-table : (f : Refusal) → judgedLists limits n t R lists ≡ faulty f → false ≡ goodRecord limits (usedRecord T)
+  unfolding checkedLists judged usedRecord
+  refused-table f v = sym (not-so _ (λ g.
+      let is-good : checkedLists limits n t R lists ≡ good (usedRecord T) = rw back at (good-lists-accepted limits (usedRecord T) g) in
+      let is-bad : checkedLists limits n t R lists ≡ bad f = rw v in
+      let z : _≡_ {A = ℕ} 0 1 = cc in omega arith))
+
+-- The loss sets of the most rounds and seats fit the array.
+pub sets-fit : (n R : ℕ) → n ≤ 7 → R ≤ 127 → n * R ≤ 889
+sets-fit n R a b = mul-le-mul a b
+
+-- What a table reads as, by what the test of its used part found.
+pub reads-bad : (table : Table) → goodRecord limits (usedRecord table) ≡ false → tableReading table ≡ bad BadTable
+unfolding tableReading
+reads-bad table h = rw h
+
+-- ════ An opening ════
+
+module _ (n t : ℕ) (table : Table) where
+  pub opening-refused : goodHeader limits (emptyHeader n t) ≡ false → answerTo (opening n t) table ≡ faulty OutOfRange
+  unfolding answerTo verdictOf openingVerdict unless
+  opening-refused h = rw h
+
+  pub opening-accepted : goodHeader limits (emptyHeader n t) ≡ true → answerTo (opening n t) table ≡ accepted
+  unfolding answerTo verdictOf openingVerdict unless
+  opening-accepted h = rw h
+
+-- ════ A round ════
+
+one-round-fits : (b : Bool) → (b && true && true && true) ≡ b
+one-round-fits true = refl
+one-round-fits false = refl
+
+module _ (sets : List Seats) (table : Table) where
+  pub round-bad : goodRecord limits (usedRecord table) ≡ false → answerTo (round sets) table ≡ faulty BadTable
+  unfolding answerTo verdictOf onTable
+  round-bad h = rw (reads-bad table h)
+
+  module _ (g : goodRecord limits (usedRecord table) ≡ true) where
+    round-on : answerTo (round sets) table ≡ roundVerdict sets (usedRecord table)
+    unfolding answerTo verdictOf onTable
+    round-on = rw (reading-good table g)
+
+    pub round-full : 127 ≤ table .rounds → answerTo (round sets) table ≡ faulty RoundsFull
+    unfolding roundVerdict unless usedRecord
+    round-full h = round-on ∙ rw (le-ltb (table .rounds) 127 h)
+
+    pub round-judged : table .rounds < 127 → answerTo (round sets) table ≡ judgedLists limits (table .seats) (table .bound) 1 (listsOf sets [] [] [] [])
+    unfolding roundVerdict unless usedRecord judgedLists fitting judgedEdits editsFrom
+    round-judged h =
+        let f = header-facts limits _ (record-facts limits (usedRecord table) g .header) in
+        let header : goodHeader limits (headerFrom (table .seats) (table .bound) 1 (listsOf sets [] [] [] [])) ≡ true
+        = header-from-facts limits _ (record { fewest = f .fewest; most = f .most; bound = f .bound; rounds = omega arith; edits = omega arith }) in
+        let one : table .seats * 1 ≡ table .seats = omega arith in
+        round-on ∙ rw (lt-ltb (table .rounds) 127 h, header, one, one-round-fits (eqb (length sets) (table .seats)))
+
+-- The table with the new sets in their place.
+pub round-table : (sets : List Seats) (table : Table) (losses : List Seats) → losses ≡ behind (table .seats * table .rounds) sets (table .losses)
+    → _≡_ {A = Table} (record {
+      seats = table .seats;
+      bound = table .bound;
+      rounds = table .rounds + 1;
+      edits = table .edits;
+      losses = losses;
+      editors = table .editors;
+      times = table .times;
+      cells = table .cells;
+      changes = table .changes;
+    }) (added (round sets) table)
+round-table sets table losses e = rw e
+
+-- ════ An edit ════
+
+-- Every change of sixteen bits has a number in range.
+pub mapped-fits : (z : ℤ) → SFits w16 z → mapped z ≤ 65535
+unfolding mapped
+mapped-fits (pos d) f = let s : d < 2 ^ 15 = f .sfits in omega arith
+mapped-fits (negsuc d) f = let s : d < 2 ^ 15 = f .sfits in omega arith
+
+last-append : (before : Before) (edits : List Edit) (e : Edit) → lastOf before (edits ++ (e ∷ [])) ≡ This e
+unfolding lastOf
+last-append before [] e = refl
+last-append before (x ∷ edits) e = last-append (This x) edits e
+
+module _ (who when where′ : List ℕ) (heights : List ℤ) where
+  pub last-of-none : Nothing ≡ lastOf Nothing (editsFrom (take 0 who) (take 0 when) (take 0 where′) (take 0 heights))
+  unfolding lastOf editsFrom
+  last-of-none = refl
+
+  pub last-of-some : (held : ℕ) → 0 < held → Held held who when where′ heights
+      → This (editOf (getD who (held - 1) 0) (getD when (held - 1) 0) (getD where′ (held - 1) 0) (getD heights (held - 1) (pos 0)))
+      ≡ lastOf Nothing (editsFrom (take held who) (take held when) (take held where′) (take held heights))
+  last-of-some zero z h = absurd (omega arith)
+  last-of-some (suc k) z h =
+      let one : suc k - 1 ≡ k = omega arith in
+      let a = length-take-le k who (omega arith) in
+      let b = length-take-le k when (omega arith) in
+      let c = length-take-le k where′ (omega arith) in
+      let d = length-take-le k heights (omega arith) in
+      rw (
+        one,
+        take-suc who k 0 (omega arith),
+        take-suc when k 0 (omega arith),
+        take-suc where′ k 0 (omega arith),
+        take-suc heights k (pos 0) (omega arith),
+        edits-from-append (take k who) (take k when) (take k where′) (take k heights) (getD who k 0) (getD when k 0) (getD where′ k 0) (getD heights k (pos 0)) (b ∙ sym a) (c ∙ sym a) (d ∙ sym a),
+        last-append Nothing (editsFrom (take k who) (take k when) (take k where′) (take k heights)) (editOf (getD who k 0) (getD when k 0) (getD where′ k 0) (getD heights k (pos 0))),
+      )
+
+module _ (seat : Seat) (cell : ℕ) (change : ℤ) (table : Table) where
+  pub edit-bad : goodRecord limits (usedRecord table) ≡ false → answerTo (edit seat cell change) table ≡ faulty BadTable
+  unfolding answerTo verdictOf onTable
+  edit-bad h = rw (reads-bad table h)
+
+  abbrev new : Edit
+  new = record { seat = seat; time = record { 0 = table .rounds }; cell = cell; change = change }
+
+  module _ (g : goodRecord limits (usedRecord table) ≡ true) where
+    edit-on : answerTo (edit seat cell change) table ≡ editVerdict (presentEdit seat cell change (usedRecord table)) (usedRecord table)
+    unfolding answerTo verdictOf onTable
+    edit-on = rw (reading-good table g)
+
+    edit-out : goodEdit limits (table .seats) (table .rounds) new ≡ false → answerTo (edit seat cell change) table ≡ faulty OutOfRange
+    unfolding editVerdict unless usedRecord
+    edit-out h = edit-on ∙ rw h
+
+    pub edit-no-seat : table .seats ≤ seat .0 → answerTo (edit seat cell change) table ≡ faulty OutOfRange
+    unfolding usedRecord
+    edit-no-seat h = edit-out (not-so _ (λ e.
+        let f = edit-facts limits _ _ new e in
+        let k = header-facts limits _ (record-facts limits (usedRecord table) g .header) in omega arith))
+
+    pub edit-no-cell : 65535 < cell → answerTo (edit seat cell change) table ≡ faulty OutOfRange
+    edit-no-cell h = edit-out (not-so _ (λ e. let f = edit-facts limits _ _ new e in omega arith))
+
+    module _ (at : seat .0 < table .seats) (in-range : cell ≤ 65535) (fits : SFits w16 change) where
+      sound : goodEdit limits (table .seats) (table .rounds) new ≡ true
+      sound = let m = mapped-fits change fits in edit-from-facts limits _ _ new (record { seat = omega arith; time = omega arith; cell = in-range; change = m })
+
+      pub edit-full : 512 ≤ table .edits → answerTo (edit seat cell change) table ≡ faulty EditsFull
+      unfolding editVerdict unless usedRecord
+      edit-full h = edit-on ∙ rw (sound, le-ltb (table .edits) 512 h)
+
+      module _ (room : table .edits < 512) (before : Before) (last : before ≡ lastOf Nothing (usedRecord table .edits)) where
+        pub edit-early : follows before new ≡ false → answerTo (edit seat cell change) table ≡ faulty BadOrder
+        unfolding editVerdict unless usedRecord
+        edit-early h =
+            let late : follows (lastOf Nothing (usedRecord table .edits)) new ≡ false = rw last at h in
+            edit-on ∙ rw (sound, lt-ltb (table .edits) 512 room, late)
+
+        pub edit-accepted : follows before new ≡ true → answerTo (edit seat cell change) table ≡ accepted
+        unfolding editVerdict unless usedRecord
+        edit-accepted h =
+            let late : follows (lastOf Nothing (usedRecord table .edits)) new ≡ true = rw last at h in
+            edit-on ∙ rw (sound, lt-ltb (table .edits) 512 room, late)
+
+-- The table with the new edit in its place.
+pub edit-table : (seat : Seat) (cell : ℕ) (change : ℤ) (table : Table) (put : ℤ) → put ≡ change → Held (table .edits + 1) (table .editors) (table .times) (table .cells) (table .changes)
+    → _≡_ {A = Table} (record {
+      seats = table .seats;
+      bound = table .bound;
+      rounds = table .rounds;
+      edits = table .edits + 1;
+      losses = table .losses;
+      editors = set (table .editors) (table .edits) (seat .0);
+      times = set (table .times) (table .edits) (table .rounds);
+      cells = set (table .cells) (table .edits) cell;
+      changes = set (table .changes) (table .edits) put;
+    }) (added (edit seat cell change) table)
+edit-table seat cell change table put e h =
+    rw (
+      e,
+      behind-one (table .edits) (seat .0) (table .editors) (omega arith),
+      behind-one (table .edits) (table .rounds) (table .times) (omega arith),
+      behind-one (table .edits) cell (table .cells) (omega arith),
+      behind-one (table .edits) change (table .changes) (omega arith),
+    )
+
+-- ════ Questions ════
+
+module _ (table : Table) where
+  pub asked-bad : {A : Type 0} (ask : Record → Asked A) → goodRecord limits (usedRecord table) ≡ false → onRecord (tableReading table) ask ≡ refused BadTable
+  unfolding onRecord
+  asked-bad ask h = rw (reads-bad table h)
+
+  pub asked-good : {A : Type 0} (ask : Record → Asked A) → goodRecord limits (usedRecord table) ≡ true → onRecord (tableReading table) ask ≡ ask (usedRecord table)
+  unfolding onRecord
+  asked-good ask h = rw (reading-good table h)
+  -- The same of a lent buffer.
+
+pub bad-buffer : {A : Type 0} (asked : Asked (List A)) (old : List A) → asked ≡ refused BadTable
+    → (Given′.Refused BadTable ≡ givenAnswer asked) × (old ≡ into asked old)
+bad-buffer asked old e = rw e (refl, refl)
+
+pub same-buffer : {A : Type 0} (asked on : Asked (List A)) (old new : List A) (answer : Given) → asked ≡ on
+    → (answer ≡ givenAnswer on) × (new ≡ into on old) → (answer ≡ givenAnswer asked) × (new ≡ into asked old)
+same-buffer asked on old new answer e f = rw e f
+
+module _ (table : Table) where
+  -- What the questions ask of an accepted record's numbers.
+  pub accepted-sizes : goodRecord limits (usedRecord table) ≡ true → Accepts (record { seats = table .seats; bound = table .bound; rounds = table .rounds })
+  unfolding usedRecord
+  accepted-sizes g =
+      let f = header-facts limits _ (record-facts limits (usedRecord table) g .header) in
+      record { seats = f .most; bound = omega arith; rounds = f .rounds }
+
+-- ════ What a step hands back ════
+
+module _ (call : Call) (table : Table) where
+  pub refused-step : (s : Step) (refusal : Refusal) → s ≡ refusing refusal table → answerTo call table ≡ faulty refusal
+      → (s .answer ≡ doneOf (answerTo call table)) × (s .table ≡ tableAfter call table)
+  unfolding doneOf tableAfter keptOr
+  refused-step s refusal e v = rw (e, v) (refl, refl)
+
+  pub accepted-step : (after : Table) → after ≡ added call table → answerTo call table ≡ accepted
+      → (Accepted ≡ doneOf (answerTo call table)) × (after ≡ tableAfter call table)
+  unfolding doneOf tableAfter keptOr
+  accepted-step after e v = rw v (refl, e)

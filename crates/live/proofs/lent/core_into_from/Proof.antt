@@ -1,0 +1,43 @@
+-- `live::lent::core_into_from` meets its contract: 19, or the question on the used part.
+-- Assumes nothing.
+use borrow.Author.Needs.{needs}
+use mathlib.Core.Path.{refl, sym, _∙_, ap}
+use native.Mathlib.Omega.{arith}
+use lib.ListN.{length}
+use denote.Ref.{now}
+use borrow.Author.Tests.{not-true, not-false}
+use Rattle.knowledge.specs.Views.{latestTimes}
+use Rattle.questions.specs.Accepted.{coreIn}
+use Rattle.questions.specs.Answers.{givenAnswer}
+use Rattle.questions.specs.Question.{farmOfRecord, looking, settledIn, buffer}
+use Rattle.live.specs.Used.{tableOf, usedRecord}
+use Rattle.live.proofs.StepLaws.{asked-bad, asked-good, accepted-sizes, bad-buffer, same-buffer}
+use Rattle.live.proofs.lent.core_into_from.Statement.{statement}
+use Rattle.live.proofs.lent.core_into_from.Tie as tie
+
+judge-table-requires : tie.Need-judge-table-requires
+judge-table-requires c κs = search needs
+
+returns : tie.Need-returns
+returns c =
+    let a = c .before .before .before .before .before .before .before .args in
+    bad-buffer _ (now (a .out)) (asked-bad (tableOf (now (a .losses)) (now (a .editors)) (now (a .times)) (now (a .cells)) (now (a .changes)) (a .seats) (a .bound) (a .rounds) (a .edits)) (λ r. looking (λ s. latestTimes (r .header .seats) (s .core)) (settledIn (buffer (length (now (a .out)))) (r .header .seats) (farmOfRecord r) (a .seat) (a .time))) (sym (c .before .judge-table .ensures) ∙ not-true _ (c .if1 .taken)))
+
+core-into-used-requires : tie.Need-core-into-used-requires
+core-into-used-requires c κs =
+    let s = c .before .before .before .before .before .before .before .before .before in
+    let a = s .args in
+    (accepted-sizes (tableOf (now (a .losses)) (now (a .editors)) (now (a .times)) (now (a .cells)) (now (a .changes)) (a .seats) (a .bound) (a .rounds) (a .edits)) (sym (c .before .before .before .judge-table .ensures) ∙ not-false _ (c .before .before .if1 .left)), omega arith)
+
+same-length : tie.Need-same-length
+same-length c = search needs
+
+returns-2 : tie.Need-returns-2
+unfolding usedRecord coreIn
+returns-2 c =
+    let a = c .before .before .before .before .before .before .before .before .before .before .before .args in
+    let same = asked-good (tableOf (now (a .losses)) (now (a .editors)) (now (a .times)) (now (a .cells)) (now (a .changes)) (a .seats) (a .bound) (a .rounds) (a .edits)) (λ r. looking (λ s. latestTimes (r .header .seats) (s .core)) (settledIn (buffer (length (now (a .out)))) (r .header .seats) (farmOfRecord r) (a .seat) (a .time))) (sym (c .before .before .before .before .before .judge-table .ensures) ∙ not-false _ (c .before .before .before .before .if1 .left)) in
+    same-buffer _ _ (now (a .out)) _ _ same (c .before .core-into-used .ensures)
+
+pub core-into-from-spec : {M : Type 1} → statement M
+core-into-from-spec = tie.close (tie.spec judge-table-requires returns core-into-used-requires same-length returns-2)

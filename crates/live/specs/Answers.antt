@@ -1,0 +1,15 @@
+-- What the code answers to a call, and what a step hands back: each case of its enum has one meaning here.
+use Rattle.farm.specs.declared.refusals.Refusal.{Refusal}
+use Rattle.record.specs.Writing.{Verdict, accepted, faulty}
+use Rattle.live.specs.declared.answers.Done.{Done}
+use Rattle.live.specs.declared.answers.Done.the-variants.{Accepted, Refused}
+use Rattle.live.specs.declared.answers.Step.{Step}
+use Rattle.live.specs.declared.table.Table.{Table}
+
+unfoldable pub doneOf : Verdict → Done
+doneOf accepted = Accepted
+doneOf (faulty refusal) = Refused refusal
+
+-- A refusal, with the table as it came.
+abbrev pub refusing : Refusal → Table → Step
+refusing refusal table = record { answer = Refused refusal; table = table }

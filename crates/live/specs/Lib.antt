@@ -1,0 +1,5 @@
+-- Document 01, "Live": the table, the calls, and any run of them.
+pub mod Used
+pub mod Calls
+pub mod Runs
+pub mod Answers

@@ -1,0 +1,14 @@
+// What a call on the table answers, and what a step hands back.
+use crate::table::Table;
+use farm::refusals::Refusal;
+
+pub enum Done {
+    Accepted,
+    Refused(Refusal),
+}
+
+// A step by value: the answer, and the table after it.
+pub struct Step {
+    pub answer: Done,
+    pub table: Table,
+}

@@ -1,0 +1,161 @@
+-- The settled answer as the construction's code gives it, and what a core can hold: no place later than the time that was asked
+-- about, and no place of a seat that does not play.
+-- Assumes nothing.
+use mathlib.Core.Path.{_≡_, refl, sym, _∙_, ap}
+use Prim.Native.Nat.{ℕ, _+_, _-_, _^_, _<_, _≤_}
+use native.Mathlib.Nat.{le-antisymm}
+use native.Mathlib.Omega.{arith}
+use Rattle.farm.specs.Sets.{size}
+use Rattle.farm.specs.declared.places.Seat.{Seat}
+use Rattle.farm.specs.declared.places.Time.{Time}
+use Rattle.farm.specs.declared.refusals.Refusal.{Refusal}
+use Rattle.farm.specs.declared.refusals.Refusal.the-variants.{OverBound}
+use Rattle.knowledge.specs.Farm.{Farm, Place, IsSeat, seat, time, place}
+use Rattle.knowledge.specs.Views.{InView, itself, remembered, received, latestTimes}
+use Rattle.knowledge.specs.Settled.{Settled, Outcome, overBound, settled, IsOutcome, coreView, outcomeOf}
+use Rattle.knowledge.proofs.ViewLaws.{le-of-below, in-view-complete}
+use Rattle.knowledge.proofs.ViewTheory.{view-past}
+use Rattle.knowledge.proofs.CriticalTime.{core-from}
+use Rattle.knowledge.proofs.ChainTheory.{stage-falls}
+use Rattle.knowledge.proofs.OutcomeTheory.{outcome-exists, answer-fixed}
+use mir.Syntax.{w16}
+use mir.Val.{SFits, toZ, ofZ}
+use mir.ValLaws.{toZ-ofZ}
+use Rattle.construction.specs.Counts.{counts}
+use Rattle.construction.specs.Answers.{answerFor, settledFor}
+use Rattle.construction.specs.declared.settled.Settled as construction
+use Rattle.construction.specs.declared.settled.Answer.{Answer}
+use Rattle.construction.specs.declared.settled.Ruling.the-variants.{Answered, Refused}
+use Rattle.construction.proofs.SettleSteps.{minus-fits, critical-is}
+use Rattle.questions.specs.declared.answers.Summary.{Summary}
+use Rattle.questions.specs.Answers.{summaryOf}
+use Rattle.questions.specs.Question.{Asked, found, refused, Lent, looking, ofOutcome, settledIn}
+use Rattle.questions.specs.Accepted.{InTime, coreIn}
+use Rattle.questions.proofs.TimeLaws.{counts-bound}
+
+-- ════ What a core can hold ════
+
+-- A view has places of seats that play, and of none else.
+seen-plays : (farm : Farm) (x : Place) {p : Seat} {k : Time} → InView farm x p k → IsSeat farm p → IsSeat farm (x .seat)
+seen-plays farm x itself h = h
+seen-plays farm x (remembered v) h = seen-plays farm x v h
+seen-plays farm x (received q arrived v) h = seen-plays farm x v q
+
+module _ (farm : Farm) (fits : farm .bound < farm .seats) (p : Seat) (ℓ : Time) (here : IsSeat farm p) (s : Settled)
+    (was : outcomeOf farm p ℓ ≡ settled s) where
+  outcome-was : IsOutcome farm p ℓ (settled s)
+  outcome-was = rw was at (outcome-exists farm fits p ℓ here)
+
+  kept-within : size (farm .seats) (s .kept) ≤ farm .bound
+  kept-within =
+      let o = outcome-was in
+      rw (o .1 .kept) (stage-falls farm fits p ℓ here (o .0) (s .steps) .within)
+
+  -- The critical time fits a signed number of 16 bits.
+  pub critical-fits : ℓ .0 < 2 ^ 15 → farm .bound + 1 < 2 ^ 15 → SFits w16 (s .critical)
+  critical-fits early low =
+      let small = kept-within in
+      let same = answer-fixed farm p ℓ s (outcome-was .1) .1 in
+      rw (same, ← critical-is farm (ℓ .0) (s .kept) small)
+      (minus-fits (ℓ .0) (farm .bound + 1 - size (farm .seats) (s .kept)) early (omega arith))
+
+  core-was : (q j : ℕ) → j < s .core q → (q < farm .seats) × (j < ℓ .0)
+  core-was q j h =
+      let o = outcome-was in
+      let same : s .core ≡ coreView farm (ℓ .0) (s .kept) = answer-fixed farm p ℓ s (o .1) .2 in
+      let w = core-from farm (ℓ .0) (s .kept) kept-within q j (rw same at h) in
+      let early = view-past farm (w .0) (w .1) q j (w .5) in
+      let g = w .2 in
+      let m = w .4 in
+      let small = kept-within in
+      (seen-plays farm (place (seat q) (time j)) (in-view-complete farm (w .0) (w .1) q j (w .5)) g, omega arith)
+
+  pub core-in-time : (q : ℕ) → s .core q ≤ ℓ .0
+  core-in-time q = le-of-below (s .core q) (ℓ .0) (λ j h. core-was q j h .1)
+
+  pub core-of-none : (q : ℕ) → farm .seats ≤ q → s .core q ≡ 0
+  core-of-none q h =
+      le-antisymm (le-of-below (s .core q) 0 (λ j l. let w = core-was q j l .0 in let no : ⊥ = omega arith in absurd no)) (omega arith)
+
+-- ════ The code's ruling ════
+
+-- What an answer of the construction that is none of its refusals holds.
+pub record Ruled (farm : Farm) (p : Seat) (ℓ : Time) (a : Answer) : Type 0 where
+  pub what : Settled
+  pub was : outcomeOf farm p ℓ ≡ settled what
+  pub is : a .settled ≡ settledFor (farm .seats) what
+
+refused-was : (n : ℕ) (o : Outcome) (a : Answer) (r : Refusal) → a ≡ answerFor n o → a .ruling ≡ Refused r → ofOutcome o ≡ refused r
+unfolding ofOutcome
+refused-was n overBound a r e f =
+    let same : Refused OverBound ≡ Refused r = sym (ap (λ (x : Answer). x .ruling) e) ∙ f in
+    let which : OverBound ≡ r = cc in
+    ap refused which
+refused-was n (settled s) a r e f =
+    let same : Answered ≡ Refused r = sym (ap (λ (x : Answer). x .ruling) e) ∙ f in
+    let z : _≡_ {A = ℕ} 0 1 = cc in
+    absurd (omega arith)
+
+answered-was : (n : ℕ) (o : Outcome) (a : Answer) → a ≡ answerFor n o → a .ruling ≡ Answered
+    → (s : Settled) × (o ≡ settled s) × (a .settled ≡ settledFor n s)
+answered-was n overBound a e f =
+    let same : Refused OverBound ≡ Answered = sym (ap (λ (x : Answer). x .ruling) e) ∙ f in
+    let z : _≡_ {A = ℕ} 0 1 = cc in
+    absurd (omega arith)
+answered-was n (settled s) a e f = (s, refl, ap (λ (x : Answer). x .settled) e)
+
+module _ (farm : Farm) (p : Seat) (ℓ : Time) (a : Answer) (e : a ≡ answerFor (farm .seats) (outcomeOf farm p ℓ)) where
+  pub ruled-out : (r : Refusal) → a .ruling ≡ Refused r → ofOutcome (outcomeOf farm p ℓ) ≡ refused r
+  ruled-out r f = refused-was (farm .seats) (outcomeOf farm p ℓ) a r e f
+
+  pub ruled-in : a .ruling ≡ Answered → Ruled farm p ℓ a
+  ruled-in f = let w = answered-was (farm .seats) (outcomeOf farm p ℓ) a e f in record { what = w .0; was = w .1; is = w .2 }
+
+-- The code's core, as an array.
+pub core-array : (farm : Farm) (p : Seat) (ℓ : Time) (a : Answer) (r : Ruled farm p ℓ a)
+    → a .settled .core .of ≡ counts (farm .seats) (r .what .core)
+core-array farm p ℓ a r = ap (λ (x : construction.Settled). x .core .of) (r .is)
+
+pub core-in-limits : (farm : Farm) → farm .bound < farm .seats → (p : Seat) (ℓ : Time) → IsSeat farm p → ℓ .0 ≤ 127
+    → (a : Answer) (r : Ruled farm p ℓ a) → InTime (a .settled .core .of)
+core-in-limits farm fits p ℓ here early a r =
+    counts-bound (farm .seats) (r .what .core) (a .settled .core .of) 128 (core-array farm p ℓ a r)
+    (λ q. let e = core-in-time farm fits p ℓ here (r .what) (r .was) q in omega arith)
+
+-- The code's summary: the critical time has gone through 16 bits.
+pub summary-is : (farm : Farm) → farm .bound < farm .seats → (p : Seat) (ℓ : Time) → IsSeat farm p → ℓ .0 < 2 ^ 15 → farm .bound + 1 < 2 ^ 15
+    → (a : Answer) (r : Ruled farm p ℓ a)
+    → _≡_ {A = Summary}
+    (record { critical = toZ w16 (ofZ w16 (a .settled .critical)); kept = a .settled .kept; steps = a .settled .steps })
+    (summaryOf (r .what))
+summary-is farm fits p ℓ here early low a r =
+    rw (r .is, toZ-ofZ w16 (r .what .critical) (critical-fits farm fits p ℓ here (r .what) (r .was) early low))
+
+pub outcome-found : (o : Outcome) (s : Settled) → o ≡ settled s → ofOutcome o ≡ found s
+unfolding ofOutcome
+outcome-found o s e = rw e
+
+-- ════ What is looked at in a settled answer ════
+
+pub looked-refused : {A B : Type 0} (f : A → B) (asked : Asked A) (r : Refusal) → asked ≡ refused r → looking f asked ≡ refused r
+unfolding looking
+looked-refused f asked r e = rw e
+
+pub looked-found : {A B : Type 0} (f : A → B) (asked : Asked A) (a : A) → asked ≡ found a → looking f asked ≡ found (f a)
+unfolding looking
+looked-found f asked a e = rw e
+
+module _ (lent : Lent) (farm : Farm) (p : Seat) (ℓ : Time) where
+  pub core-refused : (r : Refusal) → settledIn lent (farm .seats) farm p ℓ ≡ refused r → coreIn lent farm p ℓ ≡ refused r
+  unfolding coreIn
+  core-refused r e = looked-refused _ _ r e
+
+  pub core-found : (s : Settled) → settledIn lent (farm .seats) farm p ℓ ≡ found s
+      → coreIn lent farm p ℓ ≡ found (latestTimes (farm .seats) (s .core))
+  unfolding coreIn
+  core-found s e = looked-found _ _ s e
+
+pub core-alike : (a b : Lent) (farm : Farm) (p : Seat) (ℓ : Time) → settledIn a (farm .seats) farm p ℓ ≡ settledIn b (farm .seats) farm p ℓ
+    → coreIn a farm p ℓ ≡ coreIn b farm p ℓ
+unfolding coreIn
+core-alike a b farm p ℓ e = ap (looking (λ s. latestTimes (farm .seats) (s .core))) e

@@ -1,0 +1,137 @@
+-- Marks and counts of edits: over the two lists of their places, entry by entry, and over the edits themselves.
+-- Assumes nothing.
+use mathlib.Core.Path.{_≡_, refl, sym, _∙_, ap, fun-ext}
+use mathlib.Core.Logic.{⊎-elim}
+use mathlib.Core.Bool.{Bool, true, false, cond}
+use mathlib.Core.List.{List, [], _∷_}
+use Prim.Native.Nat.{ℕ, zero, suc, _+_, _<_, _≤_}
+use native.Mathlib.Nat.{not-suc-le-zero}
+use native.Mathlib.Numerals.{add-one}
+use native.Mathlib.Omega.{arith}
+use lib.Dec.{ltb}
+use lib.ListN.{length, getD, drop, List·getD-eq-default}
+use lib.Seq.{drop-cons, drop-length}
+use borrow.Author.Tests.{lt-ltb, le-ltb}
+use Rattle.farm.specs.declared.places.Seat.{Seat}
+use Rattle.farm.specs.declared.places.Time.{Time}
+use Rattle.farm.specs.declared.refusals.Refusal.{Refusal}
+use Rattle.farm.proofs.Cases.{less-or-not}
+use Rattle.knowledge.specs.Farm.{Farm, IsSeat}
+use Rattle.knowledge.specs.Views.{View}
+use Rattle.knowledge.specs.Settled.{Settled, hasPlace}
+use Rattle.construction.specs.Counts.{counts, held, below, filled}
+use Rattle.construction.specs.declared.settled.Answer.{Answer}
+use Rattle.construction.proofs.CountLaws.{getD-filled, below-out, getD-past}
+use Rattle.construction.proofs.ViewSteps.{held-counts}
+use Rattle.record.specs.declared.edits.Edit.{Edit}
+use Rattle.record.specs.Tables.{seatsOf, timesOf}
+use Rattle.questions.specs.Marks.{markAt, marksIn, countIn}
+use Rattle.questions.specs.Question.{found, refused, Lent, byValue, inCore, marksOf, countOf, settledIn}
+use Rattle.questions.specs.Accepted.{marksOn, countOn}
+use Rattle.questions.proofs.CoreLaws.{Ruled, core-array, core-of-none, looked-refused, looked-found}
+
+-- ════ One mark ════
+
+pub mark-far : (core : List ℕ) (s t : ℕ) → length core ≤ s → 0 ≡ markAt (held core) s t
+unfolding markAt held
+mark-far core s t h = rw (List·getD-eq-default core 0 h, le-ltb t 0 (omega arith))
+
+pub mark-inside : (core : List ℕ) (s t : ℕ) → t < getD core s 0 → 1 ≡ markAt (held core) s t
+unfolding markAt held
+mark-inside core s t h = rw (lt-ltb t (getD core s 0) h)
+
+pub mark-outside : (core : List ℕ) (s t : ℕ) → getD core s 0 ≤ t → 0 ≡ markAt (held core) s t
+unfolding markAt held
+mark-outside core s t h = rw (le-ltb t (getD core s 0) h)
+
+pub mark-small : (v : View) (s t : ℕ) → markAt v s t ≤ 1
+unfolding markAt
+mark-small v s t = by (ltb t (v s))
+  where
+    by : (b : Bool) → cond b 1 0 ≤ 1
+    by true = omega arith
+    by false = omega arith
+
+-- ════ Entry by entry ════
+
+pub length-marks : (v : View) (seats times : List ℕ) → length times ≡ length seats → length (marksIn v seats times) ≡ length seats
+unfolding marksIn
+length-marks v [] times e = refl
+length-marks v (s ∷ seats) [] e = let no : ⊥ = omega arith in absurd no
+length-marks v (s ∷ seats) (t ∷ times) e = ap suc (length-marks v seats times (omega arith))
+
+pub getD-marks : (v : View) (seats times : List ℕ) (i : ℕ) → length times ≡ length seats → i < length seats
+    → getD (marksIn v seats times) i 0 ≡ markAt v (getD seats i 0) (getD times i 0)
+unfolding marksIn
+getD-marks v [] times i e h = absurd (not-suc-le-zero h)
+getD-marks v (s ∷ seats) [] i e h = let no : ⊥ = omega arith in absurd no
+getD-marks v (s ∷ seats) (t ∷ times) zero e h = refl
+getD-marks v (s ∷ seats) (t ∷ times) (suc i) e h = getD-marks v seats times i (omega arith) (omega arith)
+
+-- The count of what is left, from an entry on.
+pub count-turn : (v : View) (seats times : List ℕ) (i count m : ℕ) → length times ≡ length seats → i < length seats
+    → count + countIn v (drop i seats) (drop i times) ≡ countIn v seats times → m ≡ markAt v (getD seats i 0) (getD times i 0)
+    → (count + m) + countIn v (drop (i + 1) seats) (drop (i + 1) times) ≡ countIn v seats times
+unfolding countIn
+count-turn v seats times i count m e h inv em =
+    let short : i < length times = omega arith in
+    let step : countIn v (drop i seats) (drop i times) ≡ m + countIn v (drop (suc i) seats) (drop (suc i) times) =
+    rw (drop-cons seats i 0, drop-cons times i 0, em) in
+    rw add-one (omega arith)
+
+pub count-end : (v : View) (seats times : List ℕ) (i count : ℕ) → length times ≡ length seats → i ≡ length seats
+    → count + countIn v (drop i seats) (drop i times) ≡ countIn v seats times → count ≡ countIn v seats times
+unfolding countIn
+count-end v seats times i count e h inv =
+    let none : countIn v (drop i seats) (drop i times) ≡ 0 = rw (h, drop-length seats) in
+    omega arith
+
+-- ════ In a core that the code holds as an array ════
+
+held-past : (n : ℕ) (v : View) (q : ℕ) → n ≤ q → held (counts n v) q ≡ 0
+unfolding held counts filled
+held-past n v q h =
+    ⊎-elim (λ i. getD-filled 7 n v q i ∙ below-out n v q h) (λ o. getD-past 7 (below n v) q o) (less-or-not q 7)
+
+pub core-held : (farm : Farm) → farm .bound < farm .seats → farm .seats ≤ 7 → (p : Seat) (ℓ : Time) → IsSeat farm p
+    → (a : Answer) (r : Ruled farm p ℓ a) → held (a .settled .core .of) ≡ r .what .core
+core-held farm fits small p ℓ here a r =
+    fun-ext (λ q.
+    ap (λ (l : List ℕ). held l q) (core-array farm p ℓ a r)
+    ∙ ⊎-elim (held-counts (farm .seats) (r .what .core) q small)
+    (λ o. held-past (farm .seats) (r .what .core) q o ∙ sym (core-of-none farm fits p ℓ here (r .what) (r .was) q o))
+    (less-or-not q (farm .seats)))
+
+-- ════ The questions ════
+
+module _ (farm : Farm) (seats times : List ℕ) (p : Seat) (ℓ : Time) where
+  pub marks-refused : (lent : Lent) (r : Refusal) → settledIn lent (length seats) farm p ℓ ≡ refused r
+      → marksOn lent farm seats times p ℓ ≡ refused r
+  unfolding marksOn
+  marks-refused lent r e = looked-refused _ _ r e
+
+  pub marks-found : (lent : Lent) (s : Settled) → settledIn lent (length seats) farm p ℓ ≡ found s
+      → marksOn lent farm seats times p ℓ ≡ found (marksIn (s .core) seats times)
+  unfolding marksOn
+  marks-found lent s e = looked-found _ _ s e
+
+  pub count-refused : (r : Refusal) → settledIn byValue 0 farm p ℓ ≡ refused r → countOn farm seats times p ℓ ≡ refused r
+  unfolding countOn
+  count-refused r e = looked-refused _ _ r e
+
+  pub count-found : (s : Settled) → settledIn byValue 0 farm p ℓ ≡ found s
+      → countOn farm seats times p ℓ ≡ found (countIn (s .core) seats times)
+  unfolding countOn
+  count-found s e = looked-found _ _ s e
+
+-- ════ The marks of edits are those of their places ════
+
+pub marks-of-edits : (core : View) (edits : List Edit) → marksOf core edits ≡ marksIn core (seatsOf edits) (timesOf edits)
+unfolding marksOf marksIn markAt seatsOf timesOf inCore hasPlace
+marks-of-edits core [] = refl
+marks-of-edits core (e ∷ edits) = ap (λ (l : List ℕ). markAt core (e .seat .0) (e .time .0) ∷ l) (marks-of-edits core edits)
+
+pub count-of-edits : (core : View) (edits : List Edit) → countOf core edits ≡ countIn core (seatsOf edits) (timesOf edits)
+unfolding countOf countIn markAt seatsOf timesOf inCore hasPlace
+count-of-edits core [] = refl
+count-of-edits core (e ∷ edits) = ap (λ (k : ℕ). markAt core (e .seat .0) (e .time .0) + k) (count-of-edits core edits)

@@ -1,0 +1,68 @@
+-- What the code answers, for each outcome of a question: the meaning of each case of its structs and enums.
+use mathlib.Core.Bool.{Bool, true, false}
+use mathlib.Core.List.{List, _++_}
+use Prim.Native.Nat.{ℕ}
+use lib.IntN.{ℤ, negsuc}
+use lib.ListN.{length, drop, replicate}
+use Rattle.farm.specs.Limits.{limits}
+use Rattle.farm.specs.Sets.{Seats}
+use Rattle.knowledge.specs.Settled as rules
+use Rattle.questions.specs.declared.answers.Known.{Known}
+use Rattle.questions.specs.declared.answers.Known.the-variants as known
+use Rattle.questions.specs.declared.answers.Summary.{Summary}
+use Rattle.questions.specs.declared.answers.SettledAnswer.{SettledAnswer}
+use Rattle.questions.specs.declared.answers.SettledAnswer.the-variants as settled
+use Rattle.questions.specs.declared.answers.Count.{Count}
+use Rattle.questions.specs.declared.answers.Count.the-variants as count
+use Rattle.questions.specs.declared.answers.Standing.{Standing}
+use Rattle.questions.specs.declared.answers.Standing.the-variants as standing
+use Rattle.questions.specs.declared.answers.Given.{Given}
+use Rattle.questions.specs.declared.answers.Given.the-variants as given
+use Rattle.questions.specs.declared.answers.Times.{Times}
+use Rattle.questions.specs.Question.{Asked, found, refused}
+
+-- ════ Answers that are numbers ════
+
+abbrev pub knownAnswer : Asked Seats → Known
+knownAnswer (found set) = known.Set set
+knownAnswer (refused refusal) = known.Refused refusal
+
+-- Rule 5, without the core.
+abbrev pub summaryOf : rules.Settled → Summary
+summaryOf s = record { critical = s .critical; kept = s .kept; steps = s .steps }
+
+abbrev pub settledAnswer : Asked rules.Settled → SettledAnswer
+settledAnswer (found s) = settled.Settled (summaryOf s)
+settledAnswer (refused refusal) = settled.Refused refusal
+
+abbrev pub countAnswer : Asked ℕ → Count
+countAnswer (found edits) = count.Edits edits
+countAnswer (refused refusal) = count.Refused refusal
+
+abbrev pub standingAnswer : Asked Bool → Standing
+standingAnswer (found true) = standing.Loser
+standingAnswer (found false) = standing.Clean
+standingAnswer (refused refusal) = standing.Refused refusal
+
+-- ════ Answers that go into a lent buffer ════
+
+abbrev pub givenAnswer : {A : Type 0} → Asked A → Given
+givenAnswer (found a) = given.Done
+givenAnswer (refused refusal) = given.Refused refusal
+
+-- The new entries first, and the old ones past them stay.
+abbrev pub laid : {A : Type 0} → (new old : List A) → List A
+laid new old = new ++ drop (length new) old
+
+-- What is left in the buffer. A refusal changes nothing.
+abbrev pub into : {A : Type 0} → Asked (List A) → List A → List A
+into (found new) old = laid new old
+into (refused refusal) old = old
+
+-- ════ Views and cores by value: as in a buffer of as many numbers as there can be seats, each −1 before ════
+
+abbrev pub noTimes : List ℤ
+noTimes = replicate (limits .mostSeats) (negsuc 0)
+
+abbrev pub timesAnswer : Asked (List ℤ) → Times
+timesAnswer asked = record { given = givenAnswer asked; latest = into asked noTimes }

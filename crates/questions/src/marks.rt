@@ -1,0 +1,114 @@
+// Which edits of an accepted record are in a core: 8, then 7, then 9. An edit is in the core if its
+// place is.
+use crate::answers::Count;
+use crate::answers::Given;
+use crate::views::is_place;
+use construction::settled::Ruling;
+use construction::settled::settle;
+use construction::sizes::Sizes;
+use farm::places::Seat;
+use farm::places::Time;
+use farm::refusals::Refusal;
+ghost use mathlib.Core.Path.{_≡_};
+ghost use Prim.Native.Nat.{_≤_};
+ghost use lib.ListN.{length};
+ghost use Rattle.farm.specs.Limits.{limits};
+ghost use Rattle.construction.specs.Counts.{farmFor, held};
+ghost use Rattle.questions.specs.Marks.{markAt, marksIn, countIn};
+ghost use Rattle.questions.specs.Question.{byValue, buffer};
+ghost use Rattle.questions.specs.Accepted.{Accepted, marksOn, countOn};
+ghost use Rattle.questions.specs.Answers.{laid, countAnswer, givenAnswer, into};
+
+// 1 for a place in the core, 0 for one outside. A seat that the counts do not have is outside.
+fn mark_of(core: &[u16], seat: Seat, time: Time) -> u8
+    ensures { λ r. ⌜ r ≡ markAt (held (now (core .entry))) (seat .0) (time .0) ⌝ }
+{
+    let at = seat.0 as usize;
+    if core.len() <= at {
+        return 0;
+    }
+    if time.0 < core[at] { 1 } else { 0 }
+}
+
+// A mark for each edit, into the first entries of a buffer.
+fn put_marks<'a>(core: &'a [u16], editors: &'a [u8], times: &'a [u16], out: &mut [u8])
+    requires { ⌜ (length (now times) ≡ length (now editors)) × (length (now editors) ≤ length (now out)) ⌝ }
+    ensures { λ _. ⌜ now (out .exit) ≡ laid (marksIn (held (now (core .entry))) (now (editors .entry)) (now (times .entry))) (now (out .entry)) ⌝ }
+{
+    let mut i: usize = 0;
+    while i < editors.len() {
+        out[i] = mark_of(core, Seat(editors[i]), Time(times[i]));
+        i += 1;
+    }
+}
+
+// How many edits are in the core.
+fn count_marks<'a>(core: &'a [u16], editors: &'a [u8], times: &'a [u16]) -> u16
+    requires { ⌜ (length (now times) ≡ length (now editors)) × (length (now editors) ≤ limits .mostEdits) ⌝ }
+    ensures { λ r. ⌜ r ≡ countIn (held (now (core .entry))) (now (editors .entry)) (now (times .entry)) ⌝ }
+{
+    let mut count: u16 = 0;
+    let mut edit: usize = 0;
+    while edit < editors.len() {
+        count += mark_of(core, Seat(editors[edit]), Time(times[edit])) as u16;
+        edit += 1;
+    }
+    count
+}
+
+// Edit marks into a lent buffer of at least as many bytes as there are edits: 1 in the core, 0 outside.
+pub fn ask_marks<'a>(
+    losses: &'a [u16],
+    editors: &'a [u8],
+    times: &'a [u16],
+    sizes: Sizes,
+    seat: Seat,
+    time: Time,
+    out: &mut [u8],
+) -> Given
+    requires { ⌜ Accepted sizes × (length (now times) ≡ length (now editors)) ⌝ }
+    ensures { λ r.
+        ⌜ (r ≡ givenAnswer (marksOn (buffer (length (now (out .entry)))) (farmFor sizes (now (losses .entry))) (now (editors .entry)) (now (times .entry)) seat time))
+        × (now (out .exit) ≡ into (marksOn (buffer (length (now (out .entry)))) (farmFor sizes (now (losses .entry))) (now (editors .entry)) (now (times .entry)) seat time) (now (out .entry))) ⌝ }
+{
+    if !is_place(sizes, seat, time) {
+        return Given::Refused(Refusal::NoSuchPlace);
+    }
+    if out.len() < editors.len() {
+        return Given::Refused(Refusal::NoRoom);
+    }
+    let answer = settle(losses, sizes, seat, time);
+    let ruling = answer.ruling;
+    if let Ruling::Refused(refusal) = ruling {
+        return Given::Refused(refusal);
+    }
+    let settled = answer.settled;
+    let core = settled.core;
+    put_marks(&core.of, editors, times, out);
+    Given::Done
+}
+
+// How many edits are in the core.
+pub fn ask_count<'a>(
+    losses: &'a [u16],
+    editors: &'a [u8],
+    times: &'a [u16],
+    sizes: Sizes,
+    seat: Seat,
+    time: Time,
+) -> Count
+    requires { ⌜ Accepted sizes × (length (now times) ≡ length (now editors)) × (length (now editors) ≤ limits .mostEdits) ⌝ }
+    ensures { λ r. ⌜ r ≡ countAnswer (countOn (farmFor sizes (now (losses .entry))) (now (editors .entry)) (now (times .entry)) seat time) ⌝ }
+{
+    if !is_place(sizes, seat, time) {
+        return Count::Refused(Refusal::NoSuchPlace);
+    }
+    let answer = settle(losses, sizes, seat, time);
+    let ruling = answer.ruling;
+    if let Ruling::Refused(refusal) = ruling {
+        return Count::Refused(refusal);
+    }
+    let settled = answer.settled;
+    let core = settled.core;
+    Count::Edits(count_marks(&core.of, editors, times))
+}

@@ -1,0 +1,84 @@
+// Views, known sets and losers of an accepted record. 8 is tested first, then 7; 9 is never given.
+use crate::answers::Given;
+use crate::answers::Known;
+use crate::answers::Standing;
+use crate::answers::Times;
+use crate::times::put_times;
+use construction::known::known_of;
+use construction::losers::is_loser;
+use construction::sizes::Sizes;
+use construction::views::view_of;
+use farm::places::Seat;
+use farm::places::Time;
+use farm::refusals::Refusal;
+ghost use mathlib.Core.Path.{_≡_};
+ghost use mathlib.Core.Bool.{_&&_};
+ghost use lib.Dec.{ltb, leb};
+ghost use lib.ListN.{length};
+ghost use Rattle.construction.specs.Counts.{farmFor};
+ghost use Rattle.questions.specs.Question.{byValue, buffer, viewIn, knownIn, loserIn};
+ghost use Rattle.questions.specs.Accepted.{Accepted};
+ghost use Rattle.questions.specs.Answers.{knownAnswer, standingAnswer, givenAnswer, into, timesAnswer};
+
+// Whether a seat is below n and a time at most R: where not, 8 is given.
+pub fn is_place(sizes: Sizes, seat: Seat, time: Time) -> bool
+    ensures { λ r. ⌜ r ≡ (ltb (seat .0) (sizes .seats) && leb (time .0) (sizes .rounds)) ⌝ }
+{
+    if seat.0 >= sizes.seats {
+        return false;
+    }
+    time.0 <= sizes.rounds
+}
+
+// The view of a place, into a lent buffer of at least n numbers.
+pub fn ask_view_into(losses: &[u16], sizes: Sizes, seat: Seat, time: Time, out: &mut [i16]) -> Given
+    requires { ⌜ Accepted sizes ⌝ }
+    ensures { λ r.
+        ⌜ (r ≡ givenAnswer (viewIn (buffer (length (now (out .entry)))) (farmFor sizes (now (losses .entry))) seat time))
+        × (now (out .exit) ≡ into (viewIn (buffer (length (now (out .entry)))) (farmFor sizes (now (losses .entry))) seat time) (now (out .entry))) ⌝ }
+{
+    if !is_place(sizes, seat, time) {
+        return Given::Refused(Refusal::NoSuchPlace);
+    }
+    if out.len() < sizes.seats as usize {
+        return Given::Refused(Refusal::NoRoom);
+    }
+    let view = view_of(losses, sizes, seat, time);
+    put_times(&view.of, sizes.seats, out);
+    Given::Done
+}
+
+// The same by value.
+pub fn ask_view(losses: &[u16], sizes: Sizes, seat: Seat, time: Time) -> Times
+    requires { ⌜ Accepted sizes ⌝ }
+    ensures { λ r. ⌜ r ≡ timesAnswer (viewIn byValue (farmFor sizes (now (losses .entry))) seat time) ⌝ }
+{
+    let mut latest: [i16; 7] = [-1; 7];
+    let given = ask_view_into(losses, sizes, seat, time, &mut latest);
+    Times { given, latest }
+}
+
+// The known set of a place's view.
+pub fn ask_known(losses: &[u16], sizes: Sizes, seat: Seat, time: Time) -> Known
+    requires { ⌜ Accepted sizes ⌝ }
+    ensures { λ r. ⌜ r ≡ knownAnswer (knownIn (farmFor sizes (now (losses .entry))) seat time) ⌝ }
+{
+    if !is_place(sizes, seat, time) {
+        return Known::Refused(Refusal::NoSuchPlace);
+    }
+    Known::Set(known_of(losses, sizes, seat, time))
+}
+
+// Whether a seat is a loser of the whole record, or clean.
+pub fn ask_standing(losses: &[u16], sizes: Sizes, seat: Seat) -> Standing
+    ensures { λ r. ⌜ r ≡ standingAnswer (loserIn (farmFor sizes (now (losses .entry))) seat) ⌝ }
+{
+    if sizes.seats <= seat.0 {
+        return Standing::Refused(Refusal::NoSuchPlace);
+    }
+    if is_loser(losses, sizes, seat) {
+        Standing::Loser
+    } else {
+        Standing::Clean
+    }
+}
