@@ -22,7 +22,7 @@ use contract.Lifetimes.{Lfts, Shares, toks}
 use types.Kit.{Given, ‵, raw, some, given, later, _⊛_, _$_, _∵_, !, qed, by, move, keep, drop, use1, split, join, split3, pick, fsplit, fsplit3, fjoin, frame, await, updating, now as at-once, show, check, recast, done}
 use types.SemTy.{Body}
 use sound.WpLaws.{fmOf}
-use denote.RattleType.{RattleType, Denots, Valss, flat, owns}
+use denote.RattleType.{RattleType, Valss, flat, owns}
 use denote.Exit.{yes}
 use denote.Laws.{Is, Makes, Typed, shows}
 use denote.Memory.{mem, pointee}

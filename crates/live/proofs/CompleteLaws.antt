@@ -5,6 +5,9 @@ use Rattle.live.proofs.calls.open as open′
 use Rattle.live.proofs.calls.add_round as add-round
 use Rattle.live.proofs.calls.add_edit as add-edit
 use Rattle.live.proofs.asks.known as known
+use Rattle.live.proofs.asks.count as count
+use Rattle.live.proofs.asks.marks as marks
+use Rattle.live.proofs.asks.write_out as write-out
 use Rattle.live.proofs.asks.settled as settled
 use Rattle.live.proofs.asks.standing as standing
 use Rattle.live.proofs.asks.view as view
@@ -41,3 +44,12 @@ view-into-complete M 𝓤 H A mem run κs a g r s v w = by-facts M 𝓤 _ _ _ (�
 
 pub core-into-complete : Complete core-into.ended (λ M. core-into.clauses {M = M})
 core-into-complete M 𝓤 H A mem run κs a g r s v w = by-facts M 𝓤 _ _ _ (λ p q. (cc, cc))
+
+pub count-complete : Complete count.ended (λ M. count.clauses {M = M})
+count-complete M 𝓤 H A mem run κs a g r s v w = by-facts M 𝓤 _ _ _ (λ p q. (cc, cc))
+
+pub marks-complete : Complete marks.ended (λ M. marks.clauses {M = M})
+marks-complete M 𝓤 H A mem run κs a g r s v w = by-facts M 𝓤 _ _ _ (λ p q. (cc, cc))
+
+pub write-out-complete : Complete write-out.ended (λ M. write-out.clauses {M = M})
+write-out-complete M 𝓤 H A mem run κs a g r s v w = by-facts M 𝓤 _ _ _ (λ p q. (cc, cc))

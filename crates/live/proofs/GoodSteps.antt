@@ -1,12 +1,11 @@
 -- An accepted call leads from a good record to a good record.
 -- Assumes nothing.
-use mathlib.Core.Path.{_≡_, refl, sym, _∙_, ap}
+use mathlib.Core.Path.{_≡_, refl, sym}
 use mathlib.Core.Bool.{Bool, true, false, _&&_, true≢false}
 use mathlib.Core.List.{List, [], _∷_, _++_}
 use Prim.Native.Nat.{ℕ, zero, suc, _+_, _-_, _*_, _≤_, _<_}
 use native.Mathlib.Nat.{mul-zero, mul-suc, zero-add, not-suc-le-zero}
 use native.Mathlib.Omega.{arith}
-use lib.Dec.{eqb, ltb}
 use lib.ListN.{length, length-append}
 use borrow.Author.Tests.{eq-eqb, ne-eqb, ltb-true, eqb-true}
 use Rattle.farm.specs.Limits.{Limits, limits}
@@ -18,7 +17,7 @@ use Rattle.record.specs.declared.edits.Before.{Before}
 use Rattle.record.specs.declared.edits.Before.the-variants.{Nothing, This}
 use Rattle.record.specs.Edits.{follows}
 use Rattle.record.specs.Losses.{goodSet}
-use Rattle.record.specs.Good.{senderAfter, goodHeader, goodSets, goodEdit, goodEdits, goodRecord}
+use Rattle.record.specs.Good.{senderAfter, goodSets, goodEdit, goodEdits, goodRecord}
 use Rattle.record.specs.Record.{Record}
 use Rattle.record.specs.Writing.{Verdict, accepted, unless}
 use Rattle.record.proofs.GoodLaws.{header-facts, header-from-facts, edit-facts, edit-from-facts, RecordFacts, record-from-facts}

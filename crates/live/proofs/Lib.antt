@@ -14,3 +14,4 @@ pub mod Live
 pub mod Parts
 pub mod Stepped
 pub mod CompleteLaws
+pub mod Promises

@@ -25,12 +25,12 @@ use denote.RattleType.{RattleType, Denots, Valss, flat, owns, mirs}
 use denote.Exit.{yes, left}
 use denote.Laws.{Is, Makes, Typed, Lawfuls, valss, shows}
 use denote.Memory.{lone, partAt, pointee}
-use denote.Ref.{RefT, ptr, now, ShrRef, ptr-vals, shr-tells}
+use denote.Ref.{ptr, now, ShrRef, ptr-vals, shr-tells}
 use denote.Signature.{Slot, plain, shrRefTo, typesAt}
 use denote.Slice.{sliceTy}
 use denote.Steps.{looks, shuts, owned, peeks, nothing}
-use denote.Struct.Struct.{Plains, layout, toTys}
-use denote.Struct.Declared.{Declared, fields, shape, row}
+use denote.Struct.Struct.{toTys}
+use denote.Struct.Declared.{Declared, fields, row}
 use denote.Struct.Laws as LL
 use denote.Struct.Steps.{spelt}
 use denote.Triple.Clauses.{Ended, Clauses, Lasts, atExit, lasts, ensured, closing}
@@ -42,7 +42,7 @@ use borrow.Struct.Share.{Parts}
 use Rattle.live.proofs.Asked.{Asker, Lastly, lastly, Sliced, sliced}
 use Rattle.live.proofs.Changed.{lies}
 use Rattle.live.proofs.Enters.{enters}
-use Rattle.live.proofs.Picks.{Pick, lend, read, types-of, values-of, value-of, Good, AllGood, picking, picks, picking-into, picks-into}
+use Rattle.live.proofs.Picks.{Pick, lend, read, values-of, value-of, AllGood, picking, picks, picking-into, picks-into}
 use Rattle.live.proofs.Thin.{Of}
 
 -- the fields' types, and their machine values

@@ -1,26 +1,26 @@
 -- Any run of calls: the table's used part and the record of the accepted calls stay the same, call by call.
 -- Assumes nothing.
-use mathlib.Core.Path.{_≡_, refl, sym, _∙_, ap, ap₂}
-use mathlib.Core.Bool.{Bool, true, false}
-use mathlib.Core.List.{List, [], _∷_, _++_}
-use Prim.Native.Nat.{ℕ, zero, suc, _+_, _*_, _≤_, min}
+use mathlib.Core.Path.{_≡_, refl, sym, _∙_, ap}
+use mathlib.Core.Bool.{true}
+use mathlib.Core.List.{List, [], _∷_}
+use Prim.Native.Nat.{ℕ, _+_, _*_, _≤_}
 use native.Mathlib.Nat.{mul-zero}
 use native.Mathlib.Omega.{arith}
 use lib.IntN.{ℤ}
 use lib.ListN.{length, take, length-take}
-use lib.Seq.{length-take-le}
 use Rattle.farm.specs.Limits.{limits}
 use Rattle.farm.specs.Sets.{Seats}
 use Rattle.farm.specs.declared.places.Seat.{Seat}
 use Rattle.record.specs.Good.{goodRecord}
-use Rattle.record.specs.Record.{Record, Reading, good, bad}
+use Rattle.record.specs.Record.{Record, good}
 use Rattle.record.specs.Tables.{editsFrom}
 use Rattle.record.specs.Writing.{Verdict, accepted, faulty}
 use Rattle.record.proofs.GoodLaws.{RecordFacts, record-facts}
 use Rattle.live.specs.declared.table.Table.{Table}
 use Rattle.live.specs.Used.{usedRecord, tableReading}
-use Rattle.live.specs.Calls.{Call, opening, round, edit, openedRecord, withRound, withEdit, presentEdit, openingVerdict, roundVerdict, editVerdict, onTable, verdictOf, behind, openedTable, tableWithRound, tableWithEdit, added, keptOr, answerTo, tableAfter}
-use Rattle.live.specs.Runs.{Told, nothing, told, recorded, recordedIf, tableAfterAll, recordOfAll, Run-keeps-the-record}
+use Rattle.live.specs.Calls.{Call, opening, round, edit, openedRecord, withRound, withEdit, presentEdit, roundVerdict, editVerdict, onTable, verdictOf, openedTable, tableWithRound, tableWithEdit, added, keptOr, answerTo, tableAfter}
+use Rattle.live.specs.Runs.{Told, nothing, told, recorded, recordedIf, tableAfterAll, recordOfAll}
+use Rattle.live.specs.Promises.{Run-keeps-the-record}
 use Rattle.live.proofs.ListLaws.{take-behind, edits-from-append, Covered, edits-from-covered}
 use Rattle.live.proofs.GoodSteps.{opened-good, round-length, round-good, edit-good}
 

@@ -27,7 +27,7 @@ use sound.WpLaws.{FmC}
 use denote.Laws.{Typed}
 use denote.Slice.{sliceTy}
 use denote.Triple.Call.{calls-from}
-use Rattle.live.proofs.Frames.{locals, copies, past, env, stands, behind, after, from-at, allocs-all, passes-all, frees-all, operands}
+use Rattle.live.proofs.Frames.{locals, copies, past, stands, behind, after, from-at, allocs-all, passes-all, frees-all, operands}
 
 -- the value has the type
 abbrev pub Of : Ty → Val → Type 0

@@ -3,3 +3,4 @@ pub mod Used
 pub mod Calls
 pub mod Runs
 pub mod Answers
+pub mod Promises

@@ -1,12 +1,10 @@
 -- Any run of calls, from a table in any state: after an accepted opening the used part is the record of the calls that were
 -- accepted since the last accepted opening.
-use mathlib.Core.Path.{_≡_}
 use mathlib.Core.List.{List, [], _∷_}
 use Prim.Native.Nat.{ℕ}
-use Rattle.record.specs.Record.{Record, good}
+use Rattle.record.specs.Record.{Record}
 use Rattle.record.specs.Writing.{Verdict, accepted, faulty}
 use Rattle.live.specs.declared.table.Table.{Table}
-use Rattle.live.specs.Used.{usedRecord, tableReading}
 use Rattle.live.specs.Calls.{Call, opening, round, edit, openedRecord, withRound, withEdit, presentEdit, answerTo, tableAfter}
 
 -- The table after the calls, one after the other; each call gets the table as the one before left it.
@@ -37,9 +35,3 @@ unfoldable pub recordOfAll : List Call → Table → Told → Told
 recordOfAll [] table before = before
 recordOfAll (call ∷ calls) table before =
     recordOfAll calls (tableAfter call table) (recordedIf (answerTo call table) call before)
-
--- The law of any run.
-abbrev pub Run-keeps-the-record : Type 0
-Run-keeps-the-record =
-    (calls : List Call) (table : Table) (r : Record) → recordOfAll calls table nothing ≡ told r
-    → (tableReading (tableAfterAll calls table) ≡ good r) × (usedRecord (tableAfterAll calls table) ≡ r)

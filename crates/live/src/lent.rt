@@ -4,6 +4,7 @@ use construction::sizes::Sizes;
 use farm::places::Seat;
 use farm::places::Time;
 use farm::refusals::Refusal;
+use questions::answers::Count;
 use questions::answers::Given;
 use questions::answers::Known;
 use questions::answers::SettledAnswer;
@@ -12,18 +13,25 @@ use questions::answers::Times;
 use questions::cores::ask_core;
 use questions::cores::ask_core_into;
 use questions::cores::ask_settled;
+use questions::marks::ask_count;
+use questions::marks::ask_marks;
 use questions::views::ask_known;
 use questions::views::ask_standing;
 use questions::views::ask_view;
 use questions::views::ask_view_into;
+use record::writing::Written;
+use record::writing::write;
 ghost use mathlib.Core.Path.{_≡_};
-ghost use Prim.Native.Nat.{_*_};
+ghost use Prim.Native.Nat.{_*_, _≤_};
 ghost use lib.ListN.{length, take};
+ghost use Rattle.farm.specs.Limits.{limits};
+ghost use Rattle.record.specs.Answers.{listsOf, writtenIn};
+ghost use Rattle.record.specs.Writing.{answered, writtenTo, bufferWith, bufferAfter};
 ghost use Rattle.construction.specs.Counts.{farmFor};
-ghost use Rattle.questions.specs.Accepted.{Accepted, coreIn};
-ghost use Rattle.questions.specs.Question.{byValue, buffer, viewIn, knownIn, settledIn, loserIn, viewAsked, knownAsked, settledAsked, coreAsked, loserAsked};
-ghost use Rattle.questions.specs.Answers.{knownAnswer, settledAnswer, standingAnswer, givenAnswer, into, timesAnswer};
-ghost use Rattle.live.specs.Used.{tableReading, tableOf};
+ghost use Rattle.questions.specs.Accepted.{Accepted, coreIn, marksOn, countOn};
+ghost use Rattle.questions.specs.Question.{byValue, buffer, viewIn, knownIn, settledIn, loserIn, viewAsked, knownAsked, settledAsked, coreAsked, marksAsked, countAsked, loserAsked};
+ghost use Rattle.questions.specs.Answers.{knownAnswer, countAnswer, settledAnswer, standingAnswer, givenAnswer, into, timesAnswer};
+ghost use Rattle.live.specs.Used.{ArraysLong, tableReading, tableOf};
 
 // The used part of the loss sets alone is asked about.
 fn known_used(losses: &[u16], sizes: Sizes, seat: Seat, time: Time) -> Known
@@ -374,6 +382,224 @@ pub fn core_into_from<'a, 'b>(
         },
         seat,
         time,
+        out,
+    )
+}
+
+fn count_used<'a>(
+    losses: &'a [u16],
+    editors: &'a [u8],
+    times: &'a [u16],
+    sizes: Sizes,
+    edits: u16,
+    seat: Seat,
+    time: Time,
+) -> Count
+    requires { ⌜ Accepted sizes × (length (now losses) ≡ 889) × (length (now editors) ≡ 512) × (length (now times) ≡ 512) × (edits ≤ 512) ⌝ }
+    ensures { λ r. ⌜ r ≡ countAnswer (countOn (farmFor sizes (take (sizes .seats * sizes .rounds) (now (losses .entry)))) (take edits (now (editors .entry))) (take edits (now (times .entry))) seat time) ⌝ }
+{
+    let sets = sizes.seats as usize * sizes.rounds as usize;
+    let held = edits as usize;
+    ask_count(
+        &losses[..sets],
+        &editors[..held],
+        &times[..held],
+        sizes,
+        seat,
+        time,
+    )
+}
+
+pub fn count_from<'a>(
+    losses: &'a [u16; 889],
+    editors: &'a [u8; 512],
+    times: &'a [u16; 512],
+    cells: &'a [u32; 512],
+    changes: &'a [i16; 512],
+    seats: u8,
+    bound: u8,
+    rounds: u16,
+    edits: u16,
+    seat: Seat,
+    time: Time,
+) -> Count
+    ensures { λ r. ⌜ r ≡ countAnswer (countAsked (tableReading (tableOf (now (losses .entry)) (now (editors .entry)) (now (times .entry)) (now (cells .entry)) (now (changes .entry)) seats bound rounds edits)) seat time) ⌝ }
+{
+    if !judge_table(
+        losses,
+        editors,
+        times,
+        cells,
+        changes,
+        seats,
+        bound,
+        rounds,
+        edits,
+    ) {
+        return Count::Refused(Refusal::BadTable);
+    }
+    count_used(
+        losses,
+        editors,
+        times,
+        Sizes {
+            seats,
+            bound,
+            rounds,
+        },
+        edits,
+        seat,
+        time,
+    )
+}
+
+fn marks_used<'a, 'b>(
+    losses: &'a [u16],
+    editors: &'a [u8],
+    times: &'a [u16],
+    sizes: Sizes,
+    edits: u16,
+    seat: Seat,
+    time: Time,
+    out: &'b mut [u8],
+) -> Given
+    requires { ⌜ Accepted sizes × (length (now losses) ≡ 889) × (length (now editors) ≡ 512) × (length (now times) ≡ 512) × (edits ≤ 512) ⌝ }
+    ensures { λ r.
+        ⌜ (r ≡ givenAnswer (marksOn (buffer (length (now (out .entry)))) (farmFor sizes (take (sizes .seats * sizes .rounds) (now (losses .entry)))) (take edits (now (editors .entry))) (take edits (now (times .entry))) seat time))
+        × (now (out .exit) ≡ into (marksOn (buffer (length (now (out .entry)))) (farmFor sizes (take (sizes .seats * sizes .rounds) (now (losses .entry)))) (take edits (now (editors .entry))) (take edits (now (times .entry))) seat time) (now (out .entry))) ⌝ }
+{
+    let sets = sizes.seats as usize * sizes.rounds as usize;
+    let held = edits as usize;
+    ask_marks(
+        &losses[..sets],
+        &editors[..held],
+        &times[..held],
+        sizes,
+        seat,
+        time,
+        out,
+    )
+}
+
+pub fn marks_from<'a, 'b>(
+    losses: &'a [u16; 889],
+    editors: &'a [u8; 512],
+    times: &'a [u16; 512],
+    cells: &'a [u32; 512],
+    changes: &'a [i16; 512],
+    seats: u8,
+    bound: u8,
+    rounds: u16,
+    edits: u16,
+    seat: Seat,
+    time: Time,
+    out: &'b mut [u8],
+) -> Given
+    ensures { λ r.
+        ⌜ (r ≡ givenAnswer (marksAsked (buffer (length (now (out .entry)))) (tableReading (tableOf (now (losses .entry)) (now (editors .entry)) (now (times .entry)) (now (cells .entry)) (now (changes .entry)) seats bound rounds edits)) seat time))
+        × (now (out .exit) ≡ into (marksAsked (buffer (length (now (out .entry)))) (tableReading (tableOf (now (losses .entry)) (now (editors .entry)) (now (times .entry)) (now (cells .entry)) (now (changes .entry)) seats bound rounds edits)) seat time) (now (out .entry))) ⌝ }
+{
+    if !judge_table(
+        losses,
+        editors,
+        times,
+        cells,
+        changes,
+        seats,
+        bound,
+        rounds,
+        edits,
+    ) {
+        return Given::Refused(Refusal::BadTable);
+    }
+    marks_used(
+        losses,
+        editors,
+        times,
+        Sizes {
+            seats,
+            bound,
+            rounds,
+        },
+        edits,
+        seat,
+        time,
+        out,
+    )
+}
+
+fn write_used<'a, 'b>(
+    losses: &'a [u16],
+    editors: &'a [u8],
+    times: &'a [u16],
+    cells: &'a [u32],
+    changes: &'a [i16],
+    seats: u8,
+    bound: u8,
+    rounds: u16,
+    edits: u16,
+    out: &'b mut [u8],
+) -> Written
+    requires { ⌜ ArraysLong (now losses) (now editors) (now times) (now cells) (now changes) × (seats ≤ 7) × (rounds ≤ 127) × (edits ≤ 512) ⌝ }
+    ensures { λ r.
+        ⌜ (r ≡ writtenIn (writtenTo limits seats bound rounds (listsOf (take (seats * rounds) (now (losses .entry))) (take edits (now (editors .entry))) (take edits (now (times .entry))) (take edits (now (cells .entry))) (take edits (now (changes .entry)))) (length (now (out .entry)))))
+        × (now (out .exit) ≡ bufferAfter limits seats bound rounds (listsOf (take (seats * rounds) (now (losses .entry))) (take edits (now (editors .entry))) (take edits (now (times .entry))) (take edits (now (cells .entry))) (take edits (now (changes .entry)))) (now (out .entry))) ⌝ }
+{
+    let sets = seats as usize * rounds as usize;
+    let held = edits as usize;
+    write(
+        seats,
+        bound,
+        rounds,
+        &losses[..sets],
+        &editors[..held],
+        &times[..held],
+        &cells[..held],
+        &changes[..held],
+        out,
+    )
+}
+
+// The record so far as bytes: 19, 7.
+pub fn write_from<'a, 'b>(
+    losses: &'a [u16; 889],
+    editors: &'a [u8; 512],
+    times: &'a [u16; 512],
+    cells: &'a [u32; 512],
+    changes: &'a [i16; 512],
+    seats: u8,
+    bound: u8,
+    rounds: u16,
+    edits: u16,
+    out: &'b mut [u8],
+) -> Written
+    ensures { λ r.
+        ⌜ (r ≡ writtenIn (answered limits (tableReading (tableOf (now (losses .entry)) (now (editors .entry)) (now (times .entry)) (now (cells .entry)) (now (changes .entry)) seats bound rounds edits)) (length (now (out .entry)))))
+        × (now (out .exit) ≡ bufferWith limits (tableReading (tableOf (now (losses .entry)) (now (editors .entry)) (now (times .entry)) (now (cells .entry)) (now (changes .entry)) seats bound rounds edits)) (now (out .entry))) ⌝ }
+{
+    if !judge_table(
+        losses,
+        editors,
+        times,
+        cells,
+        changes,
+        seats,
+        bound,
+        rounds,
+        edits,
+    ) {
+        return Written::Refused(Refusal::BadTable);
+    }
+    write_used(
+        losses,
+        editors,
+        times,
+        cells,
+        changes,
+        seats,
+        bound,
+        rounds,
+        edits,
         out,
     )
 }

@@ -100,7 +100,7 @@ pub fn with_round(table: Table, sets: &[u16]) -> Step
 {
     let seats = table.seats;
     let bound = table.bound;
-    let rounds = table.rounds;
+    let done = table.rounds;
     let edits = table.edits;
     if !judge_table(
         &table.losses,
@@ -110,12 +110,12 @@ pub fn with_round(table: Table, sets: &[u16]) -> Step
         &table.changes,
         seats,
         bound,
-        rounds,
+        done,
         edits,
     ) {
         return refused(table, Refusal::BadTable);
     }
-    if MOST_ROUNDS <= rounds as u32 {
+    if MOST_ROUNDS <= done as u32 {
         return refused(table, Refusal::RoundsFull);
     }
     let judged = judge_round(seats, bound, sets);
@@ -123,10 +123,10 @@ pub fn with_round(table: Table, sets: &[u16]) -> Step
         return refused(table, refusal);
     }
     let mut losses = table.losses;
-    put_sets(&mut losses, seats as usize * rounds as usize, sets);
+    put_sets(&mut losses, seats as usize * done as usize, sets);
     let mut next = table;
     next.losses = losses;
-    next.rounds = rounds + 1;
+    next.rounds = done + 1;
     Step {
         answer: Done::Accepted,
         table: next,

@@ -1,7 +1,7 @@
 -- `live::checking::judge_table` meets its contract: sizes past the arrays are no good record's, and else the lists are judged.
 -- Assumes nothing.
 use borrow.Author.Needs.{needs}
-use mathlib.Core.Path.{_≡_, sym, _∙_}
+use mathlib.Core.Path.{sym, _∙_}
 use Prim.Native.Nat.{_*_, _≤_}
 use native.Mathlib.Omega.{arith}
 use lib.Seq.{length-take-le}

@@ -1,7 +1,7 @@
 -- `live::lent::known_from` meets its contract: 19, or the question on the used part.
 -- Assumes nothing.
 use borrow.Author.Needs.{needs}
-use mathlib.Core.Path.{refl, sym, _∙_, ap}
+use mathlib.Core.Path.{sym, _∙_, ap}
 use native.Mathlib.Omega.{arith}
 use denote.Ref.{now}
 use borrow.Author.Tests.{not-true, not-false}
@@ -12,24 +12,20 @@ use Rattle.live.proofs.StepLaws.{asked-bad, asked-good, accepted-sizes}
 use Rattle.live.proofs.lent.known_from.Statement.{statement}
 use Rattle.live.proofs.lent.known_from.Tie as tie
 
--- src/lent.rt:42:9
 judge-table-requires : tie.Need-judge-table-requires
 judge-table-requires c κs = search needs
 
--- src/lent.rt:43:9
 returns : tie.Need-returns
 returns c =
     let a = c .before .before .before .before .before .before .before .args in
     ap knownAnswer (sym (asked-bad (tableOf (now (a .losses)) (now (a .editors)) (now (a .times)) (now (a .cells)) (now (a .changes)) (a .seats) (a .bound) (a .rounds) (a .edits)) (λ r. knownIn (farmOfRecord r) (a .seat) (a .time)) (sym (c .before .judge-table .ensures) ∙ not-true _ (c .if1 .taken))))
 
--- src/lent.rt:45:5
 known-used-requires : tie.Need-known-used-requires
 known-used-requires c κs =
     let s = c .before .before .before .before .before .before .before .before in
     let a = s .args in
     (accepted-sizes (tableOf (now (a .losses)) (now (a .editors)) (now (a .times)) (now (a .cells)) (now (a .changes)) (a .seats) (a .bound) (a .rounds) (a .edits)) (sym (c .before .before .judge-table .ensures) ∙ not-false _ (c .before .if1 .left)), omega arith)
 
--- src/lent.rt:27:1
 returns-2 : tie.Need-returns-2
 unfolding usedRecord
 returns-2 c =

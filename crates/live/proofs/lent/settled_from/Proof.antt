@@ -1,17 +1,14 @@
 -- `live::lent::settled_from` meets its contract: 19, or the question on the used part.
 -- Assumes nothing.
 use borrow.Author.Needs.{needs}
-use mathlib.Core.Path.{refl, sym, _∙_, ap}
+use mathlib.Core.Path.{sym, _∙_, ap}
 use native.Mathlib.Omega.{arith}
-use lib.ListN.{length}
 use denote.Ref.{now}
 use borrow.Author.Tests.{not-true, not-false}
-use Rattle.knowledge.specs.Views.{latestTimes}
-use Rattle.questions.specs.Accepted.{coreIn}
 use Rattle.questions.specs.Answers.{settledAnswer}
 use Rattle.questions.specs.Question.{farmOfRecord, settledIn, byValue}
 use Rattle.live.specs.Used.{tableOf, usedRecord}
-use Rattle.live.proofs.StepLaws.{asked-bad, asked-good, accepted-sizes, bad-buffer, same-buffer}
+use Rattle.live.proofs.StepLaws.{asked-bad, asked-good, accepted-sizes}
 use Rattle.live.proofs.lent.settled_from.Statement.{statement}
 use Rattle.live.proofs.lent.settled_from.Tie as tie
 

@@ -10,45 +10,35 @@ use Rattle.live.proofs.StepLaws.{last-of-none, last-of-some}
 use Rattle.live.proofs.steps.last_held.Statement.{statement}
 use Rattle.live.proofs.steps.last_held.Tie as tie
 
--- src/steps.rt:148:9
 returns : tie.Need-returns
 returns c =
     let a = c .before .args in
     rw (c .if1 .taken) (last-of-none (now (a .editors)) (now (a .times)) (now (a .cells)) (now (a .changes)))
 
--- src/steps.rt:150:14
 sub-at : tie.Need-sub-at
 sub-at c = search needs
 
--- src/steps.rt:152:20
 shared-slice-read-t9 : tie.Need-shared-slice-read-t9
 shared-slice-read-t9 c = search needs
 
--- src/steps.rt:153:20
 mul-t11 : tie.Need-mul-t11
 mul-t11 c = search needs
 
--- src/steps.rt:153:20
 shared-slice-read-t13 : tie.Need-shared-slice-read-t13
 shared-slice-read-t13 c = search needs
 
--- src/steps.rt:154:15
 mul-t15 : tie.Need-mul-t15
 mul-t15 c = search needs
 
--- src/steps.rt:154:15
 shared-slice-read-t17 : tie.Need-shared-slice-read-t17
 shared-slice-read-t17 c = search needs
 
--- src/steps.rt:155:17
 mul-t18 : tie.Need-mul-t18
 mul-t18 c = search needs
 
--- src/steps.rt:155:17
 shared-slice-copy-out-t20 : tie.Need-shared-slice-copy-out-t20
 shared-slice-copy-out-t20 c = search needs
 
--- src/steps.rt:137:1
 returns-2 : tie.Need-returns-2
 returns-2 c =
     let a = c .before .before .before .before .before .args in

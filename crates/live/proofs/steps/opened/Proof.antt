@@ -11,40 +11,33 @@ use Rattle.live.proofs.StepLaws.{opening-refused, opening-accepted, ref
 use Rattle.live.proofs.steps.opened.Statement.{statement}
 use Rattle.live.proofs.steps.opened.Tie as tie
 
--- src/steps.rt:35:9
 refused-requires : tie.Need-refused-requires
 refused-requires c κs = search needs
 
--- src/steps.rt:35:9
 returns : tie.Need-returns
 returns c =
     let a = c .before .before .args in
     refused-step (opening (a .seats) (a .bound)) (a .table) (c .refused .result) OutOfRange (c .refused .ensures)
     (opening-refused (a .seats) (a .bound) (a .table) (few-seats limits (emptyHeader (a .seats) (a .bound)) (omega arith)))
 
--- src/steps.rt:38:9
 refused-requires-2 : tie.Need-refused-requires-2
 refused-requires-2 c κs = search needs
 
--- src/steps.rt:38:9
 returns-2 : tie.Need-returns-2
 returns-2 c =
     let a = c .before .before .before .args in
     refused-step (opening (a .seats) (a .bound)) (a .table) (c .refused2 .result) OutOfRange (c .refused2 .ensures)
     (opening-refused (a .seats) (a .bound) (a .table) (many-seats limits (emptyHeader (a .seats) (a .bound)) (omega arith) (omega arith)))
 
--- src/steps.rt:41:9
 refused-requires-3 : tie.Need-refused-requires-3
 refused-requires-3 c κs = search needs
 
--- src/steps.rt:41:9
 returns-3 : tie.Need-returns-3
 returns-3 c =
     let a = c .before .before .before .before .args in
     refused-step (opening (a .seats) (a .bound)) (a .table) (c .refused3 .result) OutOfRange (c .refused3 .ensures)
     (opening-refused (a .seats) (a .bound) (a .table) (high-bound limits (emptyHeader (a .seats) (a .bound)) (omega arith) (omega arith) (omega arith)))
 
--- src/steps.rt:31:1
 returns-4 : tie.Need-returns-4
 returns-4 c =
     let a = c .before .before .before .args in

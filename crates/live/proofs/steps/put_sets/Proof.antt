@@ -1,6 +1,5 @@
 -- `live::steps::put_sets` meets its contract. The loop's invariant: the first i sets stand behind the used ones, and the others are the old ones.
 -- Assumes nothing.
-use borrow.Author.Needs.{needs}
 use mathlib.Core.Path.{_≡_, refl, sym}
 use Prim.Native.Nat.{_-_, _≤_}
 use native.Mathlib.Omega.{arith}

@@ -1,7 +1,7 @@
 -- `live::steps::with_edit` meets its contract: 19, 3, 12, 5; else the edit goes behind those held, at the present time.
 -- Assumes nothing.
 use borrow.Author.Needs.{needs}
-use mathlib.Core.Path.{_≡_, refl, sym, _∙_, ap}
+use mathlib.Core.Path.{sym, _∙_, ap}
 use native.Mathlib.Omega.{arith}
 use lib.IntN.{ℤ}
 use mir.Syntax.{w16}
@@ -16,15 +16,12 @@ use Rattle.live.proofs.StepLaws.{edit-bad, edit-no-seat, edit-no-cell, 
 use Rattle.live.proofs.steps.with_edit.Statement.{statement}
 use Rattle.live.proofs.steps.with_edit.Tie as tie
 
--- src/steps.rt:167:9
 judge-table-requires : tie.Need-judge-table-requires
 judge-table-requires c κs = search needs
 
--- src/steps.rt:178:9
 refused-requires : tie.Need-refused-requires
 refused-requires c κs = search needs
 
--- src/steps.rt:178:9
 returns : tie.Need-returns
 returns c =
     let s = c .before .before .before .before .before .before .before .before .before .before .before .before .before .before in
@@ -32,11 +29,9 @@ returns c =
     refused-step (edit (a .seat) (a .cell) (a .change)) (a .t1) (c .refused .result) BadTable (c .refused .ensures)
     (edit-bad (a .seat) (a .cell) (a .change) (a .t1) (sym (c .before .before .judge-table .ensures) ∙ not-true _ (c .before .if1 .taken)))
 
--- src/steps.rt:181:9
 refused-requires-2 : tie.Need-refused-requires-2
 refused-requires-2 c κs = search needs
 
--- src/steps.rt:181:9
 returns-2 : tie.Need-returns-2
 returns-2 c =
     let s = c .before .before .before .before .before .before .before .before .before .before .before .before .before .before .before .before in
@@ -44,11 +39,9 @@ returns-2 c =
     refused-step (edit (a .seat) (a .cell) (a .change)) (a .t1) (c .refused2 .result) OutOfRange (c .refused2 .ensures)
     (edit-no-seat (a .seat) (a .cell) (a .change) (a .t1) (sym (c .before .before .before .before .judge-table .ensures) ∙ not-false _ (c .before .before .before .if1 .left)) (omega arith))
 
--- src/steps.rt:184:9
 refused-requires-3 : tie.Need-refused-requires-3
 refused-requires-3 c κs = search needs
 
--- src/steps.rt:184:9
 returns-3 : tie.Need-returns-3
 returns-3 c =
     let s = c .before .before .before .before .before .before .before .before .before .before .before .before .before .before .before .before .before in
@@ -56,15 +49,12 @@ returns-3 c =
     refused-step (edit (a .seat) (a .cell) (a .change)) (a .t1) (c .refused3 .result) OutOfRange (c .refused3 .ensures)
     (edit-no-cell (a .seat) (a .cell) (a .change) (a .t1) (sym (c .before .before .before .before .before .judge-table .ensures) ∙ not-false _ (c .before .before .before .before .if1 .left)) (omega arith))
 
--- src/steps.rt:186:22
 cast-if4 : tie.Need-cast-if4
 cast-if4 c = search needs
 
--- src/steps.rt:187:9
 refused-requires-4 : tie.Need-refused-requires-4
 refused-requires-4 c κs = search needs
 
--- src/steps.rt:187:9
 returns-4 : tie.Need-returns-4
 returns-4 c =
     let s = c .before .before .before .before .before .before .before .before .before .before .before .before .before .before .before .before .before .before in
@@ -72,23 +62,18 @@ returns-4 c =
     refused-step (edit (a .seat) (a .cell) (a .change)) (a .t1) (c .refused4 .result) EditsFull (c .refused4 .ensures)
     (edit-full (a .seat) (a .cell) (a .change) (a .t1) (sym (c .before .before .before .before .before .before .judge-table .ensures) ∙ not-false _ (c .before .before .before .before .before .if1 .left)) (omega arith) (omega arith) (s .fits .change) (omega arith))
 
--- src/steps.rt:189:14
 cast-at : tie.Need-cast-at
 cast-at c = search needs
 
--- src/steps.rt:196:9
 last-held-requires : tie.Need-last-held-requires
 last-held-requires c κs = search needs
 
--- src/steps.rt:203:9
 comes-after-requires : tie.Need-comes-after-requires
 comes-after-requires c κs = search needs
 
--- src/steps.rt:204:9
 refused-requires-5 : tie.Need-refused-requires-5
 refused-requires-5 c κs = search needs
 
--- src/steps.rt:204:9
 returns-5 : tie.Need-returns-5
 unfolding usedRecord
 returns-5 c =
@@ -98,39 +83,30 @@ returns-5 c =
     (edit-early (a .seat) (a .cell) (a .change) (a .t1) (sym (c .before .before .before .before .before .before .before .before .before .before .before .before .before .before .before .before .before .before .judge-table .ensures) ∙ not-false _ (c .before .before .before .before .before .before .before .before .before .before .before .before .before .before .before .before .before .if1 .left)) (omega (arith, c .before .before .before .before .before .before .before .before .before .before .before .before .before .before .before .if2 .left)) (omega (arith, c .before .before .before .before .before .before .before .before .before .before .before .before .before .before .if3 .left)) (s .fits .change) (omega (arith, c .before .before .before .before .before .before .before .before .before .before .before .before .before .if4 .left))
     (c .before .before .before .last-held .result) (c .before .before .before .last-held .ensures) (ap (λ (z : ℤ). follows (c .before .before .before .last-held .result) (editOf (a .seat .0) (a .t1 .rounds) (a .cell) z)) (sym (toZ-ofZ w16 (a .change) (s .fits .change))) ∙ sym (c .before .before .comes-after .ensures) ∙ not-true _ (c .before .if5 .taken)))
 
--- src/steps.rt:207:5
 element-write-next : tie.Need-element-write-next
 element-write-next c = search needs
 
--- src/steps.rt:208:5
 mul-next : tie.Need-mul-next
 mul-next c = search needs
 
--- src/steps.rt:208:5
 element-write-next-2 : tie.Need-element-write-next-2
 element-write-next-2 c = search needs
 
--- src/steps.rt:209:5
 mul-next-2 : tie.Need-mul-next-2
 mul-next-2 c = search needs
 
--- src/steps.rt:209:5
 element-write-next-3 : tie.Need-element-write-next-3
 element-write-next-3 c = search needs
 
--- src/steps.rt:210:5
 mul-change : tie.Need-mul-change
 mul-change c = search needs
 
--- src/steps.rt:210:5
 element-set-from-change : tie.Need-element-set-from-change
 element-set-from-change c = search needs
 
--- src/steps.rt:211:18
 add-next : tie.Need-add-next
 add-next c = search needs
 
--- src/steps.rt:160:1
 returns-6 : tie.Need-returns-6
 unfolding usedRecord
 returns-6 c =

@@ -1,7 +1,7 @@
 -- `live::steps::with_round` meets its contract: 19, 11, then what judging the round decides; else it goes behind the sets held.
 -- Assumes nothing.
 use borrow.Author.Needs.{needs}
-use mathlib.Core.Path.{_≡_, refl, sym, _∙_}
+use mathlib.Core.Path.{_≡_, sym, _∙_}
 use mathlib.Core.List.{[]}
 use Prim.Native.Nat.{_+_, _*_, _≤_}
 use native.Mathlib.Omega.{arith}
@@ -16,49 +16,39 @@ use Rattle.live.proofs.StepLaws.{sets-fit, round-bad, round-full, round
 use Rattle.live.proofs.steps.with_round.Statement.{statement}
 use Rattle.live.proofs.steps.with_round.Tie as tie
 
--- src/steps.rt:103:9
 judge-table-requires : tie.Need-judge-table-requires
 judge-table-requires c κs = search needs
 
--- src/steps.rt:114:9
 refused-requires : tie.Need-refused-requires
 refused-requires c κs = search needs
 
--- src/steps.rt:114:9
 returns : tie.Need-returns
 returns c =
     let a = c .before .before .before .before .before .before .before .before .before .before .before .before .before .before .before .args in
     refused-step (round (now (a .sets))) (a .t1) (c .refused .result) BadTable (c .refused .ensures)
     (round-bad (now (a .sets)) (a .t1) (sym (c .before .before .judge-table .ensures) ∙ not-true _ (c .before .if1 .taken)))
 
--- src/steps.rt:116:23
 cast-if2 : tie.Need-cast-if2
 cast-if2 c = search needs
 
--- src/steps.rt:117:9
 refused-requires-2 : tie.Need-refused-requires-2
 refused-requires-2 c κs = search needs
 
--- src/steps.rt:117:9
 returns-2 : tie.Need-returns-2
 returns-2 c =
     let a = c .before .before .before .before .before .before .before .before .before .before .before .before .before .before .before .before .args in
     refused-step (round (now (a .sets))) (a .t1) (c .refused2 .result) RoundsFull (c .refused2 .ensures)
     (round-full (now (a .sets)) (a .t1) (sym (c .before .before .before .judge-table .ensures) ∙ not-false _ (c .before .before .if1 .left)) (omega arith))
 
--- src/steps.rt:119:9
 judge-round-requires : tie.Need-judge-round-requires
 judge-round-requires c κs = search needs
 
--- src/steps.rt:120:28
 enum-known-judged : tie.Need-enum-known-judged
 enum-known-judged c = search needs
 
--- src/steps.rt:121:9
 refused-requires-3 : tie.Need-refused-requires-3
 refused-requires-3 c κs = search needs
 
--- src/steps.rt:121:9
 returns-3 : tie.Need-returns-3
 returns-3 c =
     let a = c .before .before .before .before .before .before .before .before .before .before .before .before .before .before .before .before .before .before .before .before .args in
@@ -68,19 +58,15 @@ returns-3 c =
 enum-told : tie.Need-enum-told
 enum-told c = search needs
 
--- src/steps.rt:124:14
 slice-aggregate-put-sets : tie.Need-slice-aggregate-put-sets
 slice-aggregate-put-sets c = search needs
 
--- src/steps.rt:124:27
 cast-put-sets : tie.Need-cast-put-sets
 cast-put-sets c = search needs
 
--- src/steps.rt:124:44
 cast-put-sets-2 : tie.Need-cast-put-sets-2
 cast-put-sets-2 c = search needs
 
--- src/steps.rt:124:27
 mul-put-sets : tie.Need-mul-put-sets
 mul-put-sets c =
     let a = c .before .before .before .before .before .before .before .before .before .before .before .before .before .before .before .before .before .before .before .before .args in
@@ -89,7 +75,6 @@ mul-put-sets c =
     let small : a .t1 .seats * a .t1 .rounds ≤ 889 = sets-fit _ _ (f .most) (omega arith) in
     omega arith
 
--- src/steps.rt:124:5
 put-sets-requires : tie.Need-put-sets-requires
 put-sets-requires c κs =
     let a = c .before .before .before .before .before .before .before .before .before .before .before .before .before .before .before .before .before .before .before .before .args in
@@ -99,11 +84,9 @@ put-sets-requires c κs =
     let long : length (now (a .sets)) ≡ a .t1 .seats * 1 = accepted-lengths (a .t1 .seats) (a .t1 .bound) 1 (listsOf (now (a .sets)) [] [] [] []) v .losses in
     omega arith
 
--- src/steps.rt:127:19
 add-next : tie.Need-add-next
 add-next c = search needs
 
--- src/steps.rt:96:1
 returns-4 : tie.Need-returns-4
 returns-4 c =
     let a = c .before .before .before .before .before .before .before .before .before .before .before .before .before .before .before .before .before .before .before .before .before .before .args in

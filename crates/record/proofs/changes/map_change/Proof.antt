@@ -1,13 +1,11 @@
+-- `record::changes::map_change` meets its contract: a change below zero is −(k + 1), and −1 less it is k.
+-- Assumes nothing.
 use mathlib.Core.Path.{sym, _∙_, ap}
 use Rattle.record.proofs.ChangeLaws.{Below, below-zero, Above, not-below-zero}
 use Rattle.record.specs.Changes.{mapped}
 use native.Mathlib.Omega.{arith}
--- `record::changes::map_change` meets its contract: a change below zero is −(k + 1), and −1 less it is k.
--- Assumes nothing.
 use Rattle.record.proofs.changes.map_change.Statement.{statement}
 use Rattle.record.proofs.changes.map_change.Tie as tie
-use Rattle.record.proofs.changes.map_change.Reads as reads
-use Rattle.record.proofs.changes.map_change.Lts as lts
 
 low : (c : tie.Then1) → Below (c .before .args .change)
 low c = below-zero (c .before .args .change) (c .before .fits .change) (c .if1 .taken)

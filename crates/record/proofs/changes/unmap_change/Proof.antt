@@ -1,16 +1,14 @@
+-- `record::changes::unmap_change` meets its contract: half of 16 bits is the change, or lies as far below −1 as the change does.
+-- Assumes nothing.
 use Rattle.record.proofs.ChangeLaws.{half-kept, below-half, even-unmapped, odd-unmapped}
 use mir.ValLaws.{toZ-ofZ}
 use mir.Val.{SFits, toZ, ofZ}
 use mir.Syntax.{w16}
 use native.Mathlib.Omega.{arith}
 use mathlib.Core.Path.{sym, _∙_, ap}
--- `record::changes::unmap_change` meets its contract: half of 16 bits is the change, or lies as far below −1 as the change does.
--- Assumes nothing.
 use borrow.Author.Needs.{needs}
 use Rattle.record.proofs.changes.unmap_change.Statement.{statement}
 use Rattle.record.proofs.changes.unmap_change.Tie as tie
-use Rattle.record.proofs.changes.unmap_change.Reads as reads
-use Rattle.record.proofs.changes.unmap_change.Lts as lts
 
 cast-half : tie.Need-cast-half
 cast-half c = search needs

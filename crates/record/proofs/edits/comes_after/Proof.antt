@@ -1,14 +1,11 @@
+-- `record::edits::comes_after` meets its contract: the first edit comes after nothing.
+-- Assumes nothing.
 use Rattle.record.specs.Edits.{follows}
 use Rattle.record.specs.declared.edits.Before.{Before}
 use mathlib.Core.Path.{sym, _∙_, ap}
--- `record::edits::comes_after` meets its contract: the first edit comes after nothing.
--- Assumes nothing.
 use borrow.Author.Needs.{needs}
 use Rattle.record.proofs.edits.comes_after.Statement.{statement}
 use Rattle.record.proofs.edits.comes_after.Tie as tie
-use Rattle.record.proofs.edits.comes_after.Reads as reads
-use Rattle.record.proofs.edits.comes_after.Lts as lts
-use Rattle.record.proofs.edits.rises_to.Reads as rises-to-reads
 
 enum-told : tie.Need-enum-told
 enum-told c = search needs

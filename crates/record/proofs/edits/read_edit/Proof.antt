@@ -1,3 +1,5 @@
+-- `record::edits::read_edit` meets its contract: the four fields stand one after the other, and the first refusal is the edit's.
+-- Assumes nothing.
 use Rattle.record.specs.declared.edits.EditRead.the-variants.{Edit as EditFound}
 use mir.ValLaws.{toZ-ofZ}
 use mir.Syntax.{w16}
@@ -11,16 +13,9 @@ use denote.Ref.{now}
 use native.Mathlib.Omega.{arith}
 use Prim.Native.Nat.{ℕ, _-_}
 use mathlib.Core.Path.{_≡_, sym, _∙_, ap}
--- `record::edits::read_edit` meets its contract: the four fields stand one after the other, and the first refusal is the edit's.
--- Assumes nothing.
 use borrow.Author.Needs.{needs}
 use Rattle.record.proofs.edits.read_edit.Statement.{statement}
 use Rattle.record.proofs.edits.read_edit.Tie as tie
-use Rattle.record.proofs.edits.read_edit.Reads as reads
-use Rattle.record.proofs.edits.read_edit.Lts as lts
-use Rattle.record.proofs.changes.unmap_change.Reads as unmap-change-reads
-use Rattle.record.proofs.numbers.read_within.Reads as read-within-reads
-use Rattle.record.proofs.numbers.refusal_of.Reads as refusal-of-reads
 
 seat-was : (c : tie.After-known-told)
     → Field 0 (c .before .before .before .before .before .args .seats - 1) (now (c .before .before .before .before .before .args .bytes)) (c .before .before .before .before .before .args .from .at) (c .before .s .given .0 .0) (c .before .s .given .0 .1 .0 .at)

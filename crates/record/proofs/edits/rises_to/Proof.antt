@@ -1,10 +1,8 @@
-use Rattle.record.proofs.EditLaws.{rises-by-time, rises-by-seat, rises-by-cell}
 -- `record::edits::rises_to` meets its contract: the first of time, seat and cell that differs decides.
 -- Assumes nothing.
+use Rattle.record.proofs.EditLaws.{rises-by-time, rises-by-seat, rises-by-cell}
 use Rattle.record.proofs.edits.rises_to.Statement.{statement}
 use Rattle.record.proofs.edits.rises_to.Tie as tie
-use Rattle.record.proofs.edits.rises_to.Reads as reads
-use Rattle.record.proofs.edits.rises_to.Lts as lts
 
 returns : tie.Need-returns
 returns c = rises-by-time (c .before .args .a) (c .before .args .b) (c .if1 .taken)

@@ -1,3 +1,5 @@
+-- `record::fill::fill` meets its contract: the parts stand where the first pass found them, so each fill takes what that pass took.
+-- Assumes nothing.
 use Rattle.record.proofs.ReadLaws.{Parts, good-parts, Ready, ready, sets-ready, EditsReady, edits-ready, room, tables-filled}
 use Rattle.record.proofs.RecordLaws.{Head, header-was, header-was-refused}
 use Rattle.record.proofs.TakingLaws.{value-not-refused}
@@ -5,16 +7,9 @@ use Rattle.farm.specs.Limits.{limits}
 use denote.Ref.{now}
 use native.Mathlib.Omega.{arith}
 use mathlib.Core.Path.{_≡_, sym, _∙_, refl}
--- `record::fill::fill` meets its contract: the parts stand where the first pass found them, so each fill takes what that pass took.
--- Assumes nothing.
 use borrow.Author.Needs.{needs}
 use Rattle.record.proofs.fill.fill.Statement.{statement}
 use Rattle.record.proofs.fill.fill.Tie as tie
-use Rattle.record.proofs.fill.fill.Reads as reads
-use Rattle.record.proofs.fill.fill.Lts as lts
-use Rattle.record.proofs.fill.fill_edits.Reads as fill-edits-reads
-use Rattle.record.proofs.fill.fill_losses.Reads as fill-losses-reads
-use Rattle.record.proofs.header.read_header.Reads as read-header-reads
 
 head : (c : tie.After-known-told) → Head (now (c .before .before .before .before .before .before .before .before .before .args .bytes)) (c .before .read .given .0 .0) (c .before .read .given .0 .1 .0 .at)
 head c = header-was _ _ _ _ (c .before .before .before .read-header .ensures) (c .before .read .given .1)

@@ -1,3 +1,5 @@
+-- `record::fill::fill_edits` meets its contract. The loop's invariant: what is left to take makes the four lists what they are to be.
+-- Assumes nothing.
 use mir.ValLaws.{toZ-ofZ}
 use mir.Val.{SFits}
 use mir.Syntax.{w16}
@@ -12,13 +14,8 @@ use native.Mathlib.Omega.{arith}
 use Prim.Native.Nat.{_-_, _≤_}
 use mathlib.Core.List.{[]}
 use mathlib.Core.Path.{_≡_, sym, _∙_}
--- `record::fill::fill_edits` meets its contract. The loop's invariant: what is left to take makes the four lists what they are to be.
--- Assumes nothing.
 use Rattle.record.proofs.fill.fill_edits.Statement.{statement}
 use Rattle.record.proofs.fill.fill_edits.Tie as tie
-use Rattle.record.proofs.fill.fill_edits.Reads as reads
-use Rattle.record.proofs.fill.fill_edits.Lts as lts
-use Rattle.record.proofs.edits.read_edit.Reads as read-edit-reads
 
 abbrev Inv-loop : tie.InvT-loop
 Inv-loop bytes n rounds count seats₀ times₀ cells₀ changes₀ at₀ i₀ seats times cells changes at i = EditsLeft bytes n rounds count at i (tables [] seats₀ times₀ cells₀ changes₀) (tables [] seats times cells changes)

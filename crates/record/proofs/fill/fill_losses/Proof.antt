@@ -1,3 +1,5 @@
+-- `record::fill::fill_losses` meets its contract. The loop's invariant: what is left to take makes the table what it is to be.
+-- Assumes nothing.
 use Rattle.record.proofs.FillLaws.{SetsLeft, sets-start, sets-end, sets-on, sets-no-stop}
 use Rattle.record.proofs.CursorLaws.{number-was, number-was-refused}
 use Rattle.record.specs.Cursors.{numberAt}
@@ -6,13 +8,8 @@ use borrow.Author.Needs.{needs}
 use native.Mathlib.Omega.{arith}
 use Prim.Native.Nat.{_-_, _≤_}
 use mathlib.Core.Path.{_≡_, sym, _∙_}
--- `record::fill::fill_losses` meets its contract. The loop's invariant: what is left to take makes the table what it is to be.
--- Assumes nothing.
 use Rattle.record.proofs.fill.fill_losses.Statement.{statement}
 use Rattle.record.proofs.fill.fill_losses.Tie as tie
-use Rattle.record.proofs.fill.fill_losses.Reads as reads
-use Rattle.record.proofs.fill.fill_losses.Lts as lts
-use Rattle.record.proofs.numbers.read_number.Reads as read-number-reads
 
 abbrev Inv-loop : tie.InvT-loop
 Inv-loop bytes count losses₀ at₀ i₀ losses at i = SetsLeft bytes count at i losses₀ losses

@@ -1,3 +1,5 @@
+-- `record::header::read_header` meets its contract: the four fields stand one after the other, and the first refusal is the header's.
+-- Assumes nothing.
 use Rattle.record.proofs.CursorLaws.{Field, field-was, field-refused, cursor-drop}
 use Rattle.record.specs.Cursors.{headerIn}
 use Rattle.record.specs.Header.{takeHeader}
@@ -8,15 +10,9 @@ use native.Mathlib.Omega.{arith}
 use Prim.Native.Nat.{ℕ, _-_}
 use mathlib.Core.List.{List}
 use mathlib.Core.Path.{_≡_, sym, _∙_, ap, ap₂}
--- `record::header::read_header` meets its contract: the four fields stand one after the other, and the first refusal is the header's.
--- Assumes nothing.
 use borrow.Author.Needs.{needs}
 use Rattle.record.proofs.header.read_header.Statement.{statement}
 use Rattle.record.proofs.header.read_header.Tie as tie
-use Rattle.record.proofs.header.read_header.Reads as reads
-use Rattle.record.proofs.header.read_header.Lts as lts
-use Rattle.record.proofs.numbers.read_within.Reads as read-within-reads
-use Rattle.record.proofs.numbers.refusal_of.Reads as refusal-of-reads
 
 n-was : (c : tie.After-known-told) → Field 2 7 (now (c .before .before .before .before .before .args .bytes)) 0 (c .before .n .given .0 .0) (c .before .n .given .0 .1 .0 .at)
 n-was c = field-was 2 7 _ _ _ _ _ (c .before .before .before .read-within .ensures) (c .before .n .given .1)

@@ -1,3 +1,5 @@
+-- `record::losses::check_losses` meets its contract. The loop's invariant: all rounds end as what is left of them does.
+-- Assumes nothing.
 use Rattle.record.proofs.LossLaws.{round-was, rounds-on, rounds-stop, rounds-end}
 use Rattle.record.proofs.CursorLaws.{passed-was-refused, passed-refusal-passed}
 use Rattle.record.specs.Cursors.{passedIn}
@@ -10,14 +12,8 @@ use native.Mathlib.Omega.{arith}
 use native.Mathlib.Nat.{sub-zero}
 use Prim.Native.Nat.{_-_, _≤_}
 use mathlib.Core.Path.{_≡_, refl, sym, _∙_}
--- `record::losses::check_losses` meets its contract. The loop's invariant: all rounds end as what is left of them does.
--- Assumes nothing.
 use Rattle.record.proofs.losses.check_losses.Statement.{statement}
 use Rattle.record.proofs.losses.check_losses.Tie as tie
-use Rattle.record.proofs.losses.check_losses.Reads as reads
-use Rattle.record.proofs.losses.check_losses.Lts as lts
-use Rattle.record.proofs.losses.check_round.Reads as check-round-reads
-use Rattle.record.proofs.numbers.passed_refusal.Reads as passed-refusal-reads
 
 abbrev Inv-loop : tie.InvT-loop
 Inv-loop bytes seats rounds at₀ round₀ at round =

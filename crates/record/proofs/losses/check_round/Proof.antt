@@ -1,3 +1,5 @@
+-- `record::losses::check_round` meets its contract. The loop's invariant: the whole round ends as what is left of it does.
+-- Assumes nothing.
 use Rattle.record.proofs.LossLaws.{set-was, round-on, round-stops, round-ends}
 use Rattle.record.proofs.CursorLaws.{number-was-refused, refusal-passed}
 use Rattle.record.specs.Cursors.{passedIn}
@@ -10,14 +12,8 @@ use native.Mathlib.Omega.{arith}
 use native.Mathlib.Nat.{sub-zero}
 use Prim.Native.Nat.{_-_, _≤_}
 use mathlib.Core.Path.{_≡_, refl, sym, _∙_}
--- `record::losses::check_round` meets its contract. The loop's invariant: the whole round ends as what is left of it does.
--- Assumes nothing.
 use Rattle.record.proofs.losses.check_round.Statement.{statement}
 use Rattle.record.proofs.losses.check_round.Tie as tie
-use Rattle.record.proofs.losses.check_round.Reads as reads
-use Rattle.record.proofs.losses.check_round.Lts as lts
-use Rattle.record.proofs.losses.read_set.Reads as read-set-reads
-use Rattle.record.proofs.numbers.refusal_of.Reads as refusal-of-reads
 
 abbrev Inv-loop : tie.InvT-loop
 Inv-loop bytes seats at₀ sender₀ at sender =

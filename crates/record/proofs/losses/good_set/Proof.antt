@@ -1,3 +1,5 @@
+-- `record::losses::good_set` meets its contract: the shift is the division that finds a bit at n or above, and `holds` finds the own bit.
+-- Assumes nothing.
 use Prim.Native.Nat.{_≤_}
 use Rattle.record.proofs.LossLaws.{small-set, high-bit-bad, own-bit-decides}
 use native.Mathlib.Omega.{arith}
@@ -5,14 +7,9 @@ use lib.Dec.{lit<}
 use native.Mathlib.Nat.{lt-of-lt-of-le, pow-le-pow-right}
 use mathlib.Core.Bool.{not}
 use mathlib.Core.Path.{_∙_, ap}
--- `record::losses::good_set` meets its contract: the shift is the division that finds a bit at n or above, and `holds` finds the own bit.
--- Assumes nothing.
 use borrow.Author.Needs.{needs}
 use Rattle.record.proofs.losses.good_set.Statement.{statement}
 use Rattle.record.proofs.losses.good_set.Tie as tie
-use Rattle.record.proofs.losses.good_set.Reads as reads
-use Rattle.record.proofs.losses.good_set.Lts as lts
-use Rattle.farm.proofs.sets.holds.Reads as holds-reads
 
 shr-if1 : tie.Need-shr-if1
 shr-if1 c = search needs

@@ -1,3 +1,5 @@
+-- `record::losses::read_set` meets its contract: a refusal of the number goes up unchanged, and then the set is tested.
+-- Assumes nothing.
 use Rattle.record.proofs.CursorLaws.{number-refused, number-value, number-was, number-was-refused, refusal-passed}
 use Rattle.record.proofs.LossLaws.{set-refused, set-tested}
 use Rattle.record.specs.Cursors.{numberAt}
@@ -6,16 +8,9 @@ use Rattle.farm.specs.Limits.{limits}
 use denote.Ref.{now}
 use mathlib.Core.Bool.{true, false}
 use mathlib.Core.Path.{sym, _∙_, ap}
--- `record::losses::read_set` meets its contract: a refusal of the number goes up unchanged, and then the set is tested.
--- Assumes nothing.
 use borrow.Author.Needs.{needs}
 use Rattle.record.proofs.losses.read_set.Statement.{statement}
 use Rattle.record.proofs.losses.read_set.Tie as tie
-use Rattle.record.proofs.losses.read_set.Reads as reads
-use Rattle.record.proofs.losses.read_set.Lts as lts
-use Rattle.record.proofs.losses.good_set.Reads as good-set-reads
-use Rattle.record.proofs.numbers.read_number.Reads as read-number-reads
-use Rattle.record.proofs.numbers.refusal_of.Reads as refusal-of-reads
 
 read-number-requires : tie.Need-read-number-requires
 read-number-requires c κs = search needs

@@ -1,3 +1,5 @@
+-- `record::numbers::read_number` meets its contract: at each `return` the tests that led there say which byte ended the number, and how.
+-- Assumes nothing.
 use native.Mathlib.Nat.{pos-of-ne-zero}
 use Prim.Native.Nat.{_+_}
 use Rattle.record.proofs.CursorLaws.{ends-here, last-here, zero-here, more-here, too-long-here, number-refused, number-value}
@@ -9,13 +11,9 @@ use borrow.Author.Tests.{lt-ltb}
 use mathlib.Core.Bool.{true, false}
 use mathlib.Core.Path.{_∙_, ap}
 use native.Mathlib.Omega.{arith}
--- `record::numbers::read_number` meets its contract: at each `return` the tests that led there say which byte ended the number, and how.
--- Assumes nothing.
 use borrow.Author.Needs.{needs}
 use Rattle.record.proofs.numbers.read_number.Statement.{statement}
 use Rattle.record.proofs.numbers.read_number.Tie as tie
-use Rattle.record.proofs.numbers.read_number.Reads as reads
-use Rattle.record.proofs.numbers.read_number.Lts as lts
 
 returns : tie.Need-returns
 unfolding numberAt takeNumber

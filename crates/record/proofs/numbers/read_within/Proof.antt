@@ -1,18 +1,14 @@
+-- `record::numbers::read_within` meets its contract: a refusal of the number goes up unchanged, and a value outside the range is refused.
+-- Assumes nothing.
 use Rattle.record.proofs.CursorLaws.{number-refused, number-value, number-was, number-was-refused, refusal-passed}
 use Rattle.record.proofs.NumberLaws.{within-refused, within-below, within-above, within-good}
 use Rattle.record.specs.Cursors.{numberAt, withinAt}
 use Rattle.farm.specs.Limits.{limits}
 use denote.Ref.{now}
 use mathlib.Core.Path.{sym, _∙_}
--- `record::numbers::read_within` meets its contract: a refusal of the number goes up unchanged, and a value outside the range is refused.
--- Assumes nothing.
 use borrow.Author.Needs.{needs}
 use Rattle.record.proofs.numbers.read_within.Statement.{statement}
 use Rattle.record.proofs.numbers.read_within.Tie as tie
-use Rattle.record.proofs.numbers.read_within.Reads as reads
-use Rattle.record.proofs.numbers.read_within.Lts as lts
-use Rattle.record.proofs.numbers.read_number.Reads as read-number-reads
-use Rattle.record.proofs.numbers.refusal_of.Reads as refusal-of-reads
 
 read-number-requires : tie.Need-read-number-requires
 read-number-requires c κs = search needs

@@ -1,3 +1,5 @@
+-- `record::read::check` meets its contract: header, losses and edits stand one after the other, the first refusal is the record's,
+-- and bytes that are left come last. Assumes nothing.
 use Rattle.record.proofs.RecordLaws.{from, Head, header-was, header-was-refused, Looked, losses-looked, edits-looked, part-refused, reading-no-header, reading-no-losses, reading-no-edits, bytes-left, no-bytes-left}
 use Rattle.record.specs.Cursors.{checkedOf}
 use Rattle.record.specs.Edits.{takeEdits}
@@ -9,18 +11,9 @@ use denote.Ref.{now}
 use lib.ListN.{length}
 use native.Mathlib.Omega.{arith}
 use mathlib.Core.Path.{_≡_, sym, _∙_, ap}
--- `record::read::check` meets its contract: header, losses and edits stand one after the other, the first refusal is the record's,
--- and bytes that are left come last. Assumes nothing.
 use borrow.Author.Needs.{needs}
 use Rattle.record.proofs.read.check.Statement.{statement}
 use Rattle.record.proofs.read.check.Tie as tie
-use Rattle.record.proofs.read.check.Reads as reads
-use Rattle.record.proofs.read.check.Lts as lts
-use Rattle.record.proofs.edits.check_edits.Reads as check-edits-reads
-use Rattle.record.proofs.header.header_refusal.Reads as header-refusal-reads
-use Rattle.record.proofs.header.read_header.Reads as read-header-reads
-use Rattle.record.proofs.losses.check_losses.Reads as check-losses-reads
-use Rattle.record.proofs.numbers.passed_refusal.Reads as passed-refusal-reads
 
 head : (c : tie.After-known-told) → Head (now (c .before .before .before .before .before .args .bytes)) (c .before .read .given .0 .0) (c .before .read .given .0 .1 .0 .at)
 head c = header-was _ _ _ _ (c .before .before .before .read-header .ensures) (c .before .read .given .1)

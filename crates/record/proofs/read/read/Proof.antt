@@ -1,17 +1,13 @@
+-- `record::read::read` meets its contract: too little room is found first, and the fill only starts once the record is found good.
+-- Assumes nothing.
 use Rattle.record.proofs.ReadLaws.{Room, enough, no-room, refused-reading, accepted-reading, good-reading}
 use Rattle.record.specs.Tables.{Tables, tables}
 use denote.Ref.{now}
 use native.Mathlib.Omega.{arith}
 use mathlib.Core.Path.{_≡_, sym, _∙_}
--- `record::read::read` meets its contract: too little room is found first, and the fill only starts once the record is found good.
--- Assumes nothing.
 use borrow.Author.Needs.{needs}
 use Rattle.record.proofs.read.read.Statement.{statement}
 use Rattle.record.proofs.read.read.Tie as tie
-use Rattle.record.proofs.read.read.Reads as reads
-use Rattle.record.proofs.read.read.Lts as lts
-use Rattle.record.proofs.fill.fill.Reads as fill-reads
-use Rattle.record.proofs.read.check.Reads as check-reads
 
 -- The tables at the call, and the room in them once all five tests are passed.
 lent : (c : tie.Start) → Tables

@@ -1,0 +1,59 @@
+-- The promises of specs/Promises.antt, each proved under its own name.
+-- Assumes nothing.
+use mathlib.Core.Path.{_≡_, refl}
+use mathlib.Core.Bool.{Bool, true, false, cond}
+use Prim.Native.Nat.{ℕ}
+use native.Mathlib.Omega.{arith}
+use Rattle.farm.specs.Limits.{limits}
+use Rattle.farm.specs.declared.refusals.Refusal.the-variants.{BadTable}
+use Rattle.record.specs.Good.{goodRecord}
+use Rattle.record.specs.Record.{Record, good, bad}
+use Rattle.record.proofs.Promises.{document-numbers-fit, reads-exactly-good-records}
+use Rattle.record.proofs.ReadBack.{reading-back}
+use Rattle.live.specs.declared.table.Table.{Table}
+use Rattle.live.specs.Calls.{tableAfter, keptOr}
+use Rattle.live.specs.Used.{usedRecord, tableReading}
+use Rattle.live.specs.Promises.{Table-refused-exactly-when-not-good, Good-table-reads-back, Table-reads-as-its-record, Good-table-answers-as-its-record, Refused-call-leaves-the-table, Run-keeps-the-record}
+use Rattle.live.proofs.RunLaws as runs
+use Rattle.live.proofs.RunLaws.{reading-good}
+use Rattle.live.proofs.StepLaws.{reads-bad}
+
+-- ════ Refusal 19 ════
+
+tested : (b : Bool) (r s : Record) → cond b (good r) (bad BadTable) ≡ good s → (b ≡ true) × (s ≡ r)
+tested true r s e = (refl, (cc))
+tested false r s e = let z : _≡_ {A = ℕ} 0 1 = cc in absurd (omega arith)
+
+failed : (b : Bool) (r : Record) → cond b (good r) (bad BadTable) ≡ bad BadTable → b ≡ false
+failed true r e = let z : _≡_ {A = ℕ} 0 1 = cc in absurd (omega arith)
+failed false r e = refl
+
+passes : (table : Table) (r : Record) → tableReading table ≡ good r → (goodRecord limits (usedRecord table) ≡ true) × (r ≡ usedRecord table)
+unfolding tableReading
+passes table r e = tested (goodRecord limits (usedRecord table)) (usedRecord table) r e
+
+pub table-refused-exactly-when-not-good : Table-refused-exactly-when-not-good
+unfolding tableReading
+table-refused-exactly-when-not-good table = (failed (goodRecord limits (usedRecord table)) (usedRecord table), reads-bad table)
+
+pub good-table-reads-back : Good-table-reads-back
+good-table-reads-back table e = reading-back limits document-numbers-fit (usedRecord table) (passes table (usedRecord table) e .0)
+
+pub table-reads-as-its-record : Table-reads-as-its-record
+table-reads-as-its-record table bytes h =
+    let both = reads-exactly-good-records limits document-numbers-fit bytes h (usedRecord table) in (
+      λ e. let g = both .0 e in (reading-good table (g .0), g .1),
+      λ p. both .1 (passes table (usedRecord table) (p .0) .0, p .1),
+    )
+
+pub good-table-answers-as-its-record : Good-table-answers-as-its-record
+good-table-answers-as-its-record table r e = (passes table r e .1, λ A ask. rw e)
+
+-- ════ Condition 2: the live table ════
+
+pub refused-call-leaves-the-table : Refused-call-leaves-the-table
+unfolding tableAfter keptOr
+refused-call-leaves-the-table call table refusal e = rw e
+
+pub run-keeps-the-record : Run-keeps-the-record
+run-keeps-the-record = runs.run-keeps-the-record

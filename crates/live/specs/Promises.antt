@@ -1,0 +1,58 @@
+-- What is proved of the live table, as statements with names. Each has its proof under the same name in proofs/Promises.antt.
+use mathlib.Core.Path.{_≡_}
+use mathlib.Core.Logic.{_↔_}
+use mathlib.Core.Bool.{false}
+use mathlib.Core.List.{List}
+use Prim.Native.Nat.{ℕ}
+use Rattle.farm.specs.Limits.{limits}
+use Rattle.farm.specs.declared.refusals.Refusal.{Refusal}
+use Rattle.farm.specs.declared.refusals.Refusal.the-variants.{BadTable}
+use Rattle.record.specs.Taking.{IsBytes}
+use Rattle.record.specs.Good.{goodRecord}
+use Rattle.record.specs.Record.{Record, good, bad, readingOf, bytesOf}
+use Rattle.record.specs.Writing.{faulty}
+use Rattle.questions.specs.Question.{Asked, onRecord}
+use Rattle.live.specs.declared.table.Table.{Table}
+use Rattle.live.specs.Used.{usedRecord, tableReading}
+use Rattle.live.specs.Calls.{Call, answerTo, tableAfter}
+use Rattle.live.specs.Runs.{nothing, told, tableAfterAll, recordOfAll}
+
+-- ════ Refusal 19 ════
+
+-- 19 is given exactly when the used part is not a good record.
+abbrev pub Table-refused-exactly-when-not-good : Type 0
+Table-refused-exactly-when-not-good =
+    (table : Table) → (tableReading table ≡ bad BadTable) ↔ (goodRecord limits (usedRecord table) ≡ false)
+
+-- The test and "reads as a good record" are the same thing: a table that passes reads back from its own bytes, and bytes that
+-- read as its used part are its bytes and let it pass.
+abbrev pub Good-table-reads-back : Type 0
+Good-table-reads-back =
+    (table : Table) → tableReading table ≡ good (usedRecord table)
+    → readingOf limits (bytesOf limits (usedRecord table)) ≡ good (usedRecord table)
+
+abbrev pub Table-reads-as-its-record : Type 0
+Table-reads-as-its-record =
+    (table : Table) (bytes : List ℕ) → IsBytes bytes
+    → (readingOf limits bytes ≡ good (usedRecord table))
+    ↔ ((tableReading table ≡ good (usedRecord table)) × (bytesOf limits (usedRecord table) ≡ bytes))
+
+-- A table that passes, however it came to be, reads as its used part and nothing else, and so answers every question as that record.
+abbrev pub Good-table-answers-as-its-record : Type 1
+Good-table-answers-as-its-record =
+    (table : Table) (r : Record) → tableReading table ≡ good r
+    → (r ≡ usedRecord table) × ((A : Type 0) (ask : Record → Asked A) → onRecord (tableReading table) ask ≡ onRecord (good r) ask)
+
+-- ════ Condition 2: the live table ════
+
+-- A refused call of any kind leaves every entry of the table.
+abbrev pub Refused-call-leaves-the-table : Type 0
+Refused-call-leaves-the-table =
+    (call : Call) (table : Table) (refusal : Refusal) → answerTo call table ≡ faulty refusal → tableAfter call table ≡ table
+
+-- The law of any run: whatever calls are made, on a table in any state, after an accepted opening the table reads as the record of
+-- the calls accepted since the last one.
+abbrev pub Run-keeps-the-record : Type 0
+Run-keeps-the-record =
+    (calls : List Call) (table : Table) (r : Record) → recordOfAll calls table nothing ≡ told r
+    → (tableReading (tableAfterAll calls table) ≡ good r) × (usedRecord (tableAfterAll calls table) ≡ r)
