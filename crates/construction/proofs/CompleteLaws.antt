@@ -10,8 +10,6 @@ use Rattle.construction.proofs.known.known_of as known-of
 use Rattle.construction.proofs.losers.losers_by as losers-by
 use Rattle.construction.proofs.losers.is_loser as is-loser
 use Rattle.construction.proofs.settled.settle as settle
-use Rattle.construction.proofs.latest.latest_times as latest-times
-use Rattle.construction.proofs.latest.latest_view as latest-view
 
 -- ════ Views ════
 
@@ -42,9 +40,3 @@ is-loser-complete M 𝓤 H A mem run κs a g r s v w = by-facts M 𝓤 _ _ _ (λ
 
 pub settle-complete : Complete settle.ended (λ M. settle.clauses {M = M})
 settle-complete M 𝓤 H A mem run κs a g r s v w = by-facts M 𝓤 _ _ _ (λ p q. (cc, cc))
-
-pub latest-times-complete : Complete latest-times.ended (λ M. latest-times.clauses {M = M})
-latest-times-complete M 𝓤 H A mem run κs a g r s v w = by-facts M 𝓤 _ _ _ (λ p q. (λ i. record { times = (p ∙ sym q) i }, cc))
-
-pub latest-view-complete : Complete latest-view.ended (λ M. latest-view.clauses {M = M})
-latest-view-complete M 𝓤 H A mem run κs a g r s v w = by-facts M 𝓤 _ _ _ (λ p q. (λ i. record { times = (p ∙ sym q) i }, cc))

@@ -3,6 +3,4 @@ pub mod CountLaws
 pub mod ViewSteps
 pub mod KnownSteps
 pub mod SettleSteps
-pub mod LatestSteps
-pub mod EarlyLaws
 pub mod CompleteLaws
