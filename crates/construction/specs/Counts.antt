@@ -1,16 +1,15 @@
 -- Views as the code holds them: arrays with room for the most seats, one count for each (one more than the latest time, 0 for
 -- none), and 0 for every seat from n on, so that what an array holds is settled in every entry.
 use mathlib.Core.Bool.{Bool, cond, not, _&&_}
-use mathlib.Core.List.{List, [], _∷_, _++_, map}
-use Prim.Native.Nat.{ℕ, zero, suc, _+_, _*_, _/_, _%_, _≤_}
+use mathlib.Core.List.{List, [], _∷_, _++_}
+use Prim.Native.Nat.{ℕ, zero, suc, _+_, _*_, _/_, _%_}
 use lib.Dec.{ltb}
 use lib.ListN.{getD}
-use lib.IntN.{ℤ}
 use Rattle.farm.specs.Limits.{limits}
 use Rattle.farm.specs.Sets.{Seats, any, collect}
 use Rattle.construction.specs.declared.sizes.Sizes.{Sizes}
 use Rattle.knowledge.specs.Farm.{Farm, lostIn, farmOf}
-use Rattle.knowledge.specs.Views.{View, view, latest}
+use Rattle.knowledge.specs.Views.{View, view}
 
 -- The first m values of a function, as a list.
 unfoldable pub tabulate : (m : ℕ) → (ℕ → ℕ) → List ℕ
@@ -70,11 +69,3 @@ arrivals n table r p = collect n (λ s. not (lostIn n table r s p))
 -- The farm that the numbers n, t, R and a table of loss sets describe.
 abbrev pub farmFor : Sizes → List Seats → Farm
 farmFor sizes table = farmOf (sizes .seats) (sizes .bound) (sizes .rounds) table
-
--- A view as it is given: the latest times, −1 for none.
-abbrev pub latestIn : List ℕ → List ℤ
-latestIn = map latest
-
--- Counts of times up to the last round, as those of every view at such a time are.
-pub record Early (list : List ℕ) : Type 0 where
-  pub counts : (q : ℕ) → getD list q 0 ≤ limits .mostRounds + 1
