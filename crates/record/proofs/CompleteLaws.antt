@@ -3,11 +3,8 @@
 use Rattle.farm.proofs.Complete.{Complete, by-facts}
 use Rattle.record.proofs.header.header_refusal as header-refusal
 use Rattle.record.proofs.header.read_header as read-header
-use Rattle.record.proofs.edits.edit_refusal as edit-refusal
 use Rattle.record.proofs.edits.rises_to as rises-to
 use Rattle.record.proofs.edits.comes_after as comes-after
-use Rattle.record.proofs.edits.read_edit as read-edit
-use Rattle.record.proofs.edits.check_edits as check-edits
 use Rattle.record.proofs.read.check as check
 use Rattle.record.proofs.read.read as read
 use Rattle.record.proofs.judging.judge as judge
@@ -22,20 +19,11 @@ header-refusal-complete M 𝓤 H A mem run κs a g r s v w = by-facts M 𝓤 _ _
 pub read-header-complete : Complete read-header.ended (λ M. read-header.clauses {M = M})
 read-header-complete M 𝓤 H A mem run κs a g r s v w = by-facts M 𝓤 _ _ _ (λ p q. (cc, cc))
 
-pub edit-refusal-complete : Complete edit-refusal.ended (λ M. edit-refusal.clauses {M = M})
-edit-refusal-complete M 𝓤 H A mem run κs a g r s v w = by-facts M 𝓤 _ _ _ (λ p q. (cc, cc))
-
 pub rises-to-complete : Complete rises-to.ended (λ M. rises-to.clauses {M = M})
 rises-to-complete M 𝓤 H A mem run κs a g r s v w = by-facts M 𝓤 _ _ _ (λ p q. (cc, cc))
 
 pub comes-after-complete : Complete comes-after.ended (λ M. comes-after.clauses {M = M})
 comes-after-complete M 𝓤 H A mem run κs a g r s v w = by-facts M 𝓤 _ _ _ (λ p q. (cc, cc))
-
-pub read-edit-complete : Complete read-edit.ended (λ M. read-edit.clauses {M = M})
-read-edit-complete M 𝓤 H A mem run κs a g r s v w = by-facts M 𝓤 _ _ _ (λ p q. (cc, cc))
-
-pub check-edits-complete : Complete check-edits.ended (λ M. check-edits.clauses {M = M})
-check-edits-complete M 𝓤 H A mem run κs a g r s v w = by-facts M 𝓤 _ _ _ (λ p q. (cc, cc))
 
 pub check-complete : Complete check.ended (λ M. check.clauses {M = M})
 check-complete M 𝓤 H A mem run κs a g r s v w = by-facts M 𝓤 _ _ _ (λ p q. (cc, cc))

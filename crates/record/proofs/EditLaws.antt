@@ -15,8 +15,8 @@ use Rattle.farm.specs.declared.refusals.Refusal.the-variants.{BadOrder}
 use Rattle.record.specs.declared.edits.Edit.{Edit}
 use Rattle.record.specs.declared.edits.Before.{Before}
 use Rattle.record.specs.declared.edits.Before.the-variants.{Nothing, This}
-use Rattle.record.specs.declared.edits.EditRead.{EditRead}
-use Rattle.record.specs.declared.edits.EditRead.the-variants.{Edit as EditFound, Refused as EditRefused}
+use Rattle.record.specs.declared.edit_reader.EditRead.{EditRead}
+use Rattle.record.specs.declared.edit_reader.EditRead.the-variants.{Edit as EditFound, Refused as EditRefused}
 use Rattle.record.specs.declared.numbers.Cursor.{Cursor}
 use Rattle.record.specs.declared.numbers.Passed.the-variants.{To, Refused as PassedRefused}
 use Rattle.record.specs.Taking.{Taken, value, refused, _>>=_, when}

@@ -15,8 +15,8 @@ use Rattle.record.specs.declared.header.HeaderRead.the-variants.{Header 
 use Rattle.record.specs.declared.numbers.Passed.{Passed}
 use Rattle.record.specs.declared.numbers.Passed.the-variants.{To, Refused as PassedRefused}
 use Rattle.record.specs.declared.edits.Edit.{Edit}
-use Rattle.record.specs.declared.edits.EditRead.{EditRead}
-use Rattle.record.specs.declared.edits.EditRead.the-variants.{Edit as EditFound, Refused as EditRefused}
+use Rattle.record.specs.declared.edit_reader.EditRead.{EditRead}
+use Rattle.record.specs.declared.edit_reader.EditRead.the-variants.{Edit as EditFound, Refused as EditRefused}
 use Rattle.record.specs.declared.read.Checked.{Checked}
 use Rattle.record.specs.declared.read.Checked.the-variants.{Good, Refused as CheckedRefused}
 use Rattle.record.specs.Record.{Reading, good, bad}

@@ -1,6 +1,6 @@
 // The second pass: a record that the first pass found good goes into lent tables.
-use crate::edits::EditRead;
-use crate::edits::read_edit;
+use crate::edit_reader::EditRead;
+use crate::edit_reader::read_edit;
 use crate::header::HeaderRead;
 use crate::header::read_header;
 use crate::numbers::Cursor;

@@ -1,6 +1,7 @@
 // The record: a farm's losses and edits as bytes. Document 01, "The record". Nothing here knows views.
 mod changes; // changes.rt: a change of height as a number
-pub mod edits; // edits.rt: the edits and their order
+mod edit_reader; // edit_reader.rt: the edits, looked through
+pub mod edits; // edits.rt: an edit, and the order of edits
 mod fill; // fill.rt: a good record into tables
 pub mod header; // header.rt: seats, bound, rounds and count of edits
 pub mod judging; // judging.rt: whether lists are a good record

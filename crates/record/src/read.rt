@@ -1,6 +1,6 @@
 // Reading a whole record: is it good, and what does it begin with. Document 01, "The record" and
 // "Refusal numbers": the first faulty number in byte order decides.
-use crate::edits::check_edits;
+use crate::edit_reader::check_edits;
 use crate::fill::fill;
 use crate::header::Header;
 use crate::header::HeaderRead;

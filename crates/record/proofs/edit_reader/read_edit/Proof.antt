@@ -1,6 +1,6 @@
--- `record::edits::read_edit` meets its contract: the four fields stand one after the other, and the first refusal is the edit's.
+-- `record::edit_reader::read_edit` meets its contract: the four fields stand one after the other, and the first refusal is the edit's.
 -- Assumes nothing.
-use Rattle.record.specs.declared.edits.EditRead.the-variants.{Edit as EditFound}
+use Rattle.record.specs.declared.edit_reader.EditRead.the-variants.{Edit as EditFound}
 use mir.ValLaws.{toZ-ofZ}
 use mir.Syntax.{w16}
 use lib.IntN.{ℤ}
@@ -14,8 +14,8 @@ use native.Mathlib.Omega.{arith}
 use Prim.Native.Nat.{ℕ, _-_}
 use mathlib.Core.Path.{_≡_, sym, _∙_, ap}
 use borrow.Author.Needs.{needs}
-use Rattle.record.proofs.edits.read_edit.Statement.{statement}
-use Rattle.record.proofs.edits.read_edit.Tie as tie
+use Rattle.record.proofs.edit_reader.read_edit.Statement.{statement}
+use Rattle.record.proofs.edit_reader.read_edit.Tie as tie
 
 seat-was : (c : tie.After-known-told)
     → Field 0 (c .before .before .before .before .before .args .seats - 1) (now (c .before .before .before .before .before .args .bytes)) (c .before .before .before .before .before .args .from .at) (c .before .s .given .0 .0) (c .before .s .given .0 .1 .0 .at)

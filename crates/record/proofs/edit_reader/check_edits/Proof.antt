@@ -1,4 +1,4 @@
--- `record::edits::check_edits` meets its contract. The loop's invariant: all edits end as what is left of them does, after the last one read.
+-- `record::edit_reader::check_edits` meets its contract. The loop's invariant: all edits end as what is left of them does, after the last one read.
 -- Assumes nothing.
 use Rattle.record.proofs.EditLaws.{edit-was, edit-was-refused, edits-on, edits-stop, edits-disorder, edits-end}
 use Rattle.record.specs.Cursors.{passedIn}
@@ -13,8 +13,8 @@ use native.Mathlib.Omega.{arith}
 use native.Mathlib.Nat.{sub-zero}
 use Prim.Native.Nat.{_-_, _≤_}
 use mathlib.Core.Path.{_≡_, refl, sym, _∙_}
-use Rattle.record.proofs.edits.check_edits.Statement.{statement}
-use Rattle.record.proofs.edits.check_edits.Tie as tie
+use Rattle.record.proofs.edit_reader.check_edits.Statement.{statement}
+use Rattle.record.proofs.edit_reader.check_edits.Tie as tie
 
 abbrev Inv-loop : tie.InvT-loop
 Inv-loop bytes seats rounds edits at₀ before₀ done₀ at before done =
