@@ -1,71 +1,68 @@
 //! The lister's page.
 
-use crate::construction::{settle, Settled};
+use crate::construction::settle;
 use crate::place::Place;
 use crate::record::read::read;
 use crate::record::Record;
-use crate::views::{latest_times, Views};
+use crate::views::Views;
+use std::io::{Result, Write};
 
 /// The lister takes at most this many bytes and judges what it took.
 pub const TAKEN: usize = 4_991;
 
-pub fn page(bytes: &[u8]) -> String {
+pub fn print(bytes: &[u8], output: &mut impl Write) -> Result<()> {
     let taken = &bytes[..bytes.len().min(TAKEN)];
     match read(taken) {
-        Ok(record) => listing(&record),
-        Err(refusal) => format!("refused {}\n", refusal.number()),
+        Ok(record) => print_listing(&record, output),
+        Err(refusal) => writeln!(output, "refused {}", refusal.number()),
     }
 }
 
-fn listing(record: &Record) -> String {
-    let mut views = Views::new(record);
-    let mut text = first_line(record);
+fn print_listing(record: &Record, output: &mut impl Write) -> Result<()> {
+    let Record { seats, bound, rounds, .. } = record;
+    writeln!(output, "seats {seats} bound {bound} rounds {rounds} edits {}", record.edits.len())?;
+    let views = &mut Views::new(record);
+    let losers = record.losers();
     for time in 0..=record.rounds {
         for seat in 0..record.seats {
-            text += &line(&mut views, Place { seat, time });
+            let letter = if losers.contains(seat) { 'L' } else { 'C' };
+            write!(output, "{time} {seat} {letter}")?;
+            print_answer(views, Place { seat, time }, output)?;
         }
     }
-    text
+    Ok(())
 }
 
-fn first_line(record: &Record) -> String {
-    format!(
-        "seats {} bound {} rounds {} edits {}\n",
-        record.seats,
-        record.bound,
-        record.rounds,
-        record.edits.len()
-    )
-}
-
-fn line(views: &mut Views, place: Place) -> String {
-    let record = views.record;
-    let letter = if record.is_loser(place.seat) { 'L' } else { 'C' };
-    let start = format!("{} {} {letter}", place.time, place.seat);
+fn print_answer(views: &mut Views, place: Place, output: &mut impl Write) -> Result<()> {
     match settle(views, place) {
-        Ok(settled) => format!("{start} {}\n", answer(record, &settled)),
+        Ok(settled) => {
+            write!(output, " {} {}", settled.critical, settled.steps)?;
+            for time in settled.core.latest_times(views.record.seats) {
+                write!(output, " {time}")?;
+            }
+            writeln!(output, " {}", settled.count_edits(views.record))
+        }
         // 9 is the only refusal here: `over` stands alone after the letter.
-        Err(_) => format!("{start} over\n"),
+        Err(_) => writeln!(output, " over"),
     }
 }
 
-fn answer(record: &Record, settled: &Settled) -> String {
-    let mut numbers = vec![settled.critical.to_string(), settled.steps.to_string()];
-    for time in latest_times(record, &settled.core) {
-        numbers.push(time.to_string());
-    }
-    numbers.push(settled.count_edits(record).to_string());
-    numbers.join(" ")
+/// The page as text.
+#[cfg(test)]
+pub fn page(bytes: &[u8]) -> String {
+    let mut text = Vec::new();
+    print(bytes, &mut text).unwrap();
+    String::from_utf8(text).unwrap()
 }
 
 #[cfg(test)]
-mod tests {
+pub mod tests {
     use super::*;
     use crate::examples;
     use crate::make::good;
     use crate::random::Random;
 
-    const PRINTED_PAGE: &str = "\
+    pub const PRINTED_PAGE: &str = "\
 seats 3 bound 1 rounds 2 edits 1
 0 0 C -2 1 -1 -1 -1 0
 0 1 C -2 1 -1 -1 -1 0

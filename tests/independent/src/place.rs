@@ -1,17 +1,13 @@
 //! Seats, times and places. A seat and a time have different machine types,
 //! so the compiler keeps them apart.
 
-use std::collections::BTreeSet;
-
 /// A seat's number, from 0.
 pub type Seat = usize;
 
 /// A time. It is signed because a critical time may be below 0.
 pub type Time = i32;
 
-pub type SeatSet = BTreeSet<Seat>;
-
-#[derive(Clone, Copy, Debug, PartialEq, Eq, PartialOrd, Ord, Hash)]
+#[derive(Clone, Copy, Debug, PartialEq, Eq)]
 pub struct Place {
     pub seat: Seat,
     pub time: Time,

@@ -5,6 +5,7 @@ pub mod write;
 
 use crate::change;
 use crate::place::{Place, Seat, Time};
+use crate::seats::SeatSet;
 
 pub const FEWEST_SEATS: u32 = 2;
 pub const MOST_SEATS: u32 = 7;
@@ -56,6 +57,10 @@ impl Record {
     pub fn is_loser(&self, seat: Seat) -> bool {
         (1..=self.rounds)
             .any(|round| (0..self.seats).any(|receiver| self.lost(seat, receiver, round)))
+    }
+
+    pub fn losers(&self) -> SeatSet {
+        (0..self.seats).filter(|&seat| self.is_loser(seat)).collect()
     }
 
     /// All numbers of the record in the order in which they are written.

@@ -1,92 +1,76 @@
 //! Views as explicit sets of places (rules 1 and 2 of document 01).
 
-use crate::place::{Place, Seat, SeatSet, Time};
+mod view;
+
+use crate::place::{Place, Time};
 use crate::record::Record;
-use std::collections::{BTreeSet, HashMap};
-use std::rc::Rc;
+use crate::seats::SeatSet;
+pub use view::View;
 
-pub type View = BTreeSet<Place>;
-
-/// The views of one record. Each is searched once and then remembered.
+/// Searches the views of one record.
 pub struct Views<'a> {
     pub record: &'a Record,
-    of_places: HashMap<Place, Rc<View>>,
-    of_sets: HashMap<(SeatSet, Time), Rc<View>>,
+    everyone: SeatSet,
+    /// For each round, for each receiver, the seats whose send to it was lost.
+    missed: Vec<SeatSet>,
+    /// Places found but not yet followed; kept here so that its room is used again.
+    open: Vec<Place>,
 }
 
 impl<'a> Views<'a> {
     pub fn new(record: &'a Record) -> Self {
-        Views { record, of_places: HashMap::new(), of_sets: HashMap::new() }
+        let everyone = SeatSet::everyone(record.seats);
+        let missed_by = |receiver, round| {
+            everyone.iter().filter(move |&sender| record.lost(sender, receiver, round)).collect()
+        };
+        let missed = (1..=record.rounds)
+            .flat_map(|round| everyone.iter().map(move |receiver| missed_by(receiver, round)))
+            .collect();
+        Views { record, everyone, missed, open: Vec::new() }
     }
 
-    pub fn of_place(&mut self, place: Place) -> Rc<View> {
-        let record = self.record;
-        let view = self.of_places.entry(place);
-        Rc::clone(view.or_insert_with(|| Rc::new(search(record, place))))
+    pub fn of_place(&mut self, place: Place) -> View {
+        self.of_set(SeatSet::only(place.seat), place.time)
     }
 
-    /// The view of a set of seats at a time joins theirs; below time 0 it is empty.
-    pub fn of_set(&mut self, seats: &SeatSet, time: Time) -> Rc<View> {
-        let key = (seats.clone(), time);
-        if let Some(view) = self.of_sets.get(&key) {
-            return Rc::clone(view);
-        }
-        let mut joined = View::new();
+    /// The view of a set of seats at a time joins theirs, so one search starts
+    /// from all their places; below time 0 it is empty.
+    pub fn of_set(&mut self, seats: SeatSet, time: Time) -> View {
+        let mut view = View::empty();
         if time >= 0 {
-            for &seat in seats {
-                joined.extend(self.of_place(Place { seat, time }).iter());
+            self.reach(seats, time, &mut view);
+        }
+        while let Some(place) = self.open.pop() {
+            if place.time >= 1 {
+                self.reach(self.heard_at(place), place.time - 1, &mut view);
             }
         }
-        let view = Rc::new(joined);
-        self.of_sets.insert(key, Rc::clone(&view));
         view
     }
-}
 
-/// Rule 1: the place itself, and whatever a message that was not lost, or the
-/// seat's own memory, leads back to.
-fn search(record: &Record, start: Place) -> View {
-    let mut view = View::from([start]);
-    let mut open = vec![start];
-    while let Some(place) = open.pop() {
-        for source in sources(record, place) {
-            if view.insert(source) {
-                open.push(source);
-            }
-        }
+    /// Rule 2: a seat is known if the view has a place that missed a send of it.
+    pub fn known(&self, view: &View) -> SeatSet {
+        view.places()
+            .filter(|place| place.time >= 1)
+            .fold(SeatSet::default(), |known, place| known.join(self.missed_at(place)))
     }
-    view
-}
 
-/// The places of the time before from which word reaches this place directly.
-fn sources(record: &Record, place: Place) -> Vec<Place> {
-    if place.time == 0 {
-        return Vec::new();
+    /// Adds the places of some seats at a time; those that are new have yet to be followed.
+    fn reach(&mut self, seats: SeatSet, time: Time, view: &mut View) {
+        let new = view.insert(seats, time);
+        self.open.extend(new.iter().map(|seat| Place { seat, time }));
     }
-    let reaches =
-        |sender: Seat| sender == place.seat || !record.lost(sender, place.seat, place.time);
-    (0..record.seats)
-        .filter(|&sender| reaches(sender))
-        .map(|seat| Place { seat, time: place.time - 1 })
-        .collect()
-}
 
-/// Rule 2: a seat is known if the view has a place that missed a send of it.
-pub fn known(record: &Record, view: &View) -> SeatSet {
-    let mut known = SeatSet::new();
-    for place in view.iter().filter(|place| place.time >= 1) {
-        known.extend((0..record.seats).filter(|&seat| record.lost(seat, place.seat, place.time)));
+    /// Rule 1: the seats whose message, or own memory, reaches this place from the
+    /// time before. Its own seat is among them: no seat is in its own loss set.
+    fn heard_at(&self, place: Place) -> SeatSet {
+        self.everyone.without(self.missed_at(place))
     }
-    known
-}
 
-/// A view as n numbers: the latest time of each seat, or −1 for none.
-pub fn latest_times(record: &Record, view: &View) -> Vec<Time> {
-    let latest = |seat: Seat| {
-        let times = view.iter().filter(|place| place.seat == seat);
-        times.map(|place| place.time).max().unwrap_or(-1)
-    };
-    (0..record.seats).map(latest).collect()
+    /// The seats whose send to this place, of a time from 1 on, was lost.
+    fn missed_at(&self, place: Place) -> SeatSet {
+        self.missed[(place.time as usize - 1) * self.record.seats + place.seat]
+    }
 }
 
 #[cfg(test)]
@@ -100,11 +84,12 @@ mod tests {
         let mut random = Random::new(5);
         for _ in 0..300 {
             let record = good::record(&mut random);
-            let place =
-                Place { seat: random.below(record.seats as u64) as Seat, time: record.rounds };
-            let view = search(&record, place);
-            for (seat, &latest) in latest_times(&record, &view).iter().enumerate() {
-                assert!((0..=latest).all(|time| view.contains(&Place { seat, time })));
+            let place = Place { seat: random.index(record.seats), time: record.rounds };
+            let view = Views::new(&record).of_place(place);
+            for (seat, latest) in view.latest_times(record.seats).enumerate() {
+                assert!((0..=latest).all(|time| view.contains(Place { seat, time })));
+                let later = latest + 1..=record.rounds;
+                assert!(!later.into_iter().any(|time| view.contains(Place { seat, time })));
             }
         }
     }
@@ -112,7 +97,49 @@ mod tests {
     #[test]
     fn below_time_0_a_view_is_empty() {
         let record = good::record(&mut Random::new(6));
-        let everyone: SeatSet = (0..record.seats).collect();
-        assert!(Views::new(&record).of_set(&everyone, -1).is_empty());
+        let everyone = SeatSet::everyone(record.seats);
+        assert_eq!(Views::new(&record).of_set(everyone, -1), View::empty());
+    }
+
+    fn joined(views: &mut Views, seats: SeatSet, time: Time) -> View {
+        let mut joined = View::empty();
+        for seat in seats.iter() {
+            for place in views.of_place(Place { seat, time }).places() {
+                joined.insert(SeatSet::only(place.seat), place.time);
+            }
+        }
+        joined
+    }
+
+    /// Rule 1 word for word: the place itself, and the views of the places of the
+    /// time before whose send was not lost, the seat's own among them.
+    #[test]
+    fn the_search_finds_what_the_rule_says() {
+        let mut random = Random::new(7);
+        for _ in 0..300 {
+            let record = good::small_record(&mut random);
+            let views = &mut Views::new(&record);
+            for time in 1..=record.rounds {
+                for seat in 0..record.seats {
+                    let reaches = |q: &usize| *q == seat || !record.lost(*q, seat, time);
+                    let heard = (0..record.seats).filter(reaches).collect();
+                    let mut expected = joined(views, heard, time - 1);
+                    expected.insert(SeatSet::only(seat), time);
+                    assert_eq!(views.of_place(Place { seat, time }), expected);
+                }
+            }
+        }
+    }
+
+    #[test]
+    fn the_view_of_a_set_joins_theirs() {
+        let mut random = Random::new(8);
+        for _ in 0..300 {
+            let record = good::small_record(&mut random);
+            let views = &mut Views::new(&record);
+            let seats = (0..record.seats).filter(|_| random.chance(600)).collect();
+            let time = random.between(0, record.rounds as u64) as Time;
+            assert_eq!(views.of_set(seats, time), joined(views, seats, time));
+        }
     }
 }

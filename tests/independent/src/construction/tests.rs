@@ -2,16 +2,16 @@ use super::*;
 use crate::examples;
 use crate::make::good;
 use crate::random::Random;
-use crate::views::latest_times;
 
 fn view(record: &Record, seat: usize, time: Time) -> Vec<Time> {
     let view = Views::new(record).of_place(Place { seat, time });
-    latest_times(record, &view)
+    view.latest_times(record.seats).collect()
 }
 
 fn known_to(record: &Record, seat: usize, time: Time) -> Vec<usize> {
-    let view = Views::new(record).of_place(Place { seat, time });
-    known(record, &view).into_iter().collect()
+    let views = &mut Views::new(record);
+    let view = views.of_place(Place { seat, time });
+    views.known(&view).iter().collect()
 }
 
 /// Critical time, kept set, steps, core.
@@ -19,8 +19,8 @@ type Found = (Time, Vec<usize>, usize, Vec<Time>);
 
 fn found(record: &Record, seat: usize, time: Time) -> Result<Found, Refusal> {
     let settled = settle(&mut Views::new(record), Place { seat, time })?;
-    let core = latest_times(record, &settled.core);
-    let kept = settled.kept.into_iter().collect();
+    let core = settled.core.latest_times(record.seats).collect();
+    let kept = settled.kept.iter().collect();
     Ok((settled.critical, kept, settled.steps, core))
 }
 
@@ -117,7 +117,7 @@ fn keep_deadline(record: &Record, clean: &[usize], time: Time) {
         for later in time + record.bound as Time + 1..=record.rounds {
             for &other in clean {
                 let settled = settle(views, Place { seat: other, time: later }).ok().unwrap();
-                assert!(seen.is_subset(&settled.core));
+                assert!(seen.places().all(|place| settled.core.contains(place)));
             }
         }
     }

@@ -3,24 +3,26 @@
 
 use super::Table;
 use crate::construction::{settle, Settled};
-use crate::place::{Place, Seat, SeatSet, Time};
+use crate::place::{Place, Seat, Time};
 use crate::record::Record;
 use crate::refusal::Refusal;
-use crate::views::{known, latest_times, Views};
+use crate::seats::SeatSet;
+use crate::views::{View, Views};
 
 impl Table {
     pub fn view(&self, seat: u8, time: u16, room: &mut [Time]) -> Result<(), Refusal> {
         let (record, place) = self.asked(seat, time)?;
         let space = room.get_mut(..record.seats).ok_or(Refusal::Room)?;
         let view = Views::new(&record).of_place(place);
-        space.copy_from_slice(&latest_times(&record, &view));
+        fill(space, &view);
         Ok(())
     }
 
     pub fn known(&self, seat: u8, time: u16) -> Result<SeatSet, Refusal> {
         let (record, place) = self.asked(seat, time)?;
-        let view = Views::new(&record).of_place(place);
-        Ok(known(&record, &view))
+        let mut views = Views::new(&record);
+        let view = views.of_place(place);
+        Ok(views.known(&view))
     }
 
     pub fn settled(&self, seat: u8, time: u16) -> Result<Settled, Refusal> {
@@ -32,7 +34,7 @@ impl Table {
         let (record, place) = self.asked(seat, time)?;
         let space = room.get_mut(..record.seats).ok_or(Refusal::Room)?;
         let settled = settle(&mut Views::new(&record), place)?;
-        space.copy_from_slice(&latest_times(&record, &settled.core));
+        fill(space, &settled.core);
         Ok(())
     }
 
@@ -74,4 +76,10 @@ impl Table {
             Err(Refusal::Question)
         }
     }
+}
+
+/// Puts a view into a space of n numbers.
+fn fill(space: &mut [Time], view: &View) {
+    let latest_times = view.latest_times(space.len());
+    space.iter_mut().zip(latest_times).for_each(|(number, latest)| *number = latest);
 }

@@ -8,7 +8,7 @@ impl Composer<'_> {
     /// Any question: mostly a good place and enough room, sometimes not.
     pub fn ask(&mut self) {
         let (seat, time) = self.any_place();
-        let call = match self.random.below(9) {
+        let call = match self.random.below(10) {
             0 => Call::View { seat, time, room: self.view_room() },
             1 => Call::Known { seat, time },
             2 | 3 => Call::Settled { seat, time },
@@ -19,6 +19,26 @@ impl Composer<'_> {
             _ => Call::Record { room: self.record_room() },
         };
         self.put(call);
+    }
+
+    /// The whole construction of every seat at one time.
+    pub fn ask_everyone(&mut self) {
+        let (_, time) = self.any_place();
+        let room = self.table.edits.min(EDIT_ENTRIES as u16);
+        for seat in 0..self.seats() {
+            self.put(Call::Known { seat, time });
+            self.put(Call::Settled { seat, time });
+            self.put(Call::Core { seat, time, room: 7 });
+            self.put(Call::Marks { seat, time, room });
+        }
+    }
+
+    /// The record so far shows whether a round or an edit went in as it should.
+    pub fn ask_for_record_now_and_then(&mut self) {
+        if self.random.chance(150) {
+            let room = self.record_room();
+            self.put(Call::Record { room });
+        }
     }
 
     fn any_place(&mut self) -> (u8, u16) {

@@ -3,19 +3,26 @@
 use super::good;
 use crate::random::Random;
 
-/// Damages a record in one way; an empty one stays empty in most of them.
-pub fn damage(random: &mut Random, bytes: &mut Vec<u8>) {
-    match random.below(9) {
-        0 => cut(random, bytes),
-        1 => change_byte(random, bytes),
-        2 => flip_bits(random, bytes),
-        3 => insert(random, bytes),
-        4 => delete(random, bytes),
-        5 => swap(random, bytes),
-        6 => repeat(random, bytes),
-        7 => append(random, bytes),
-        _ => join(random, bytes),
-    }
+/// A kind of damage in plain words, and what does it.
+type Damage = (&'static str, fn(&mut Random, &mut Vec<u8>));
+
+const DAMAGES: [Damage; 9] = [
+    ("cut short", cut),
+    ("a byte changed", |random, bytes| change_byte(random, bytes)),
+    ("bits flipped", |random, bytes| flip_bits(random, bytes)),
+    ("bytes put in", insert),
+    ("bytes taken out", delete),
+    ("two bytes swapped", |random, bytes| swap(random, bytes)),
+    ("bytes repeated", repeat),
+    ("bytes put behind", append),
+    ("another record put behind", join),
+];
+
+/// Damages a record in one way and says how; an empty one stays empty in most of them.
+pub fn damage(random: &mut Random, bytes: &mut Vec<u8>) -> &'static str {
+    let (name, work) = random.pick(&DAMAGES);
+    work(random, bytes);
+    name
 }
 
 /// Bytes that never were a record, some of which begin like one.

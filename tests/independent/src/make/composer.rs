@@ -48,16 +48,17 @@ impl Composer<'_> {
         let sets = (0..self.seats()).map(|sender| self.good_set(sender, share_of(sender)));
         let sets = sets.collect();
         self.put(Call::Round { sets });
+        self.ask_for_record_now_and_then();
     }
 
     /// A round of a wrong length, with a bad loss set, or both.
     pub fn round_badly(&mut self) {
         let seats = usize::from(self.seats());
-        let count = self.random.pick(&[seats, seats, seats, seats - 1, seats + 1, 0, 300]);
+        let count = self.random.pick(&[seats, seats, seats, seats - 1, seats + 1, 0, 16]);
         let mut sets: Vec<u16> = vec![0; count];
         if !sets.is_empty() {
             let sender = self.random.index(sets.len());
-            let own = 1 << (sender % 16);
+            let own = 1 << sender;
             sets[sender] = self.random.pick(&[own, 1 << seats, 0x8000, 0x00FF, 0xFFFF]);
         }
         self.put(Call::Round { sets });
@@ -67,6 +68,7 @@ impl Composer<'_> {
     pub fn edit(&mut self) {
         let (seat, cell) = self.key_after_last();
         self.put_edit(seat, cell);
+        self.ask_for_record_now_and_then();
     }
 
     /// An edit out of range or not after the last one.

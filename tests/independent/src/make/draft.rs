@@ -48,6 +48,19 @@ impl Draft {
         }
     }
 
+    /// What stands at a position, in plain words.
+    pub fn name(&self, position: usize) -> String {
+        if position < HEADER {
+            ["n", "t", "R", "E"][position].to_string()
+        } else if position < self.edit(0, 0) {
+            format!("loss set {}", position - HEADER)
+        } else {
+            let index = position - self.edit(0, 0);
+            let field = ["seat", "time", "cell", "change"][index % EDIT_FIELDS];
+            format!("{field} of edit {}", index / EDIT_FIELDS)
+        }
+    }
+
     pub fn loss_count(&self) -> usize {
         (self.seats * self.rounds) as usize
     }

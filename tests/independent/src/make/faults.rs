@@ -6,24 +6,27 @@ use crate::random::Random;
 /// The highest number that three bytes hold.
 pub const HIGHEST_NUMBER: u32 = (1 << 21) - 1;
 
-type Fault = fn(&mut Random, &mut Draft);
+/// A fault in plain words, and what puts it into a record.
+type Fault = (&'static str, fn(&mut Random, &mut Draft));
 
 const FAULTS: [Fault; 10] = [
-    pad,
-    make_too_long,
-    exceed_in_header,
-    exceed_in_loss,
-    exceed_in_edit,
-    lack_seats,
-    set_own_bit,
-    repeat_edit,
-    swap_edits,
-    give_other_header,
+    ("a number padded", pad),
+    ("a number too long", make_too_long),
+    ("a header number too high", exceed_in_header),
+    ("a loss set too high", exceed_in_loss),
+    ("an edit's field too high", exceed_in_edit),
+    ("too few seats", lack_seats),
+    ("an own bit in a loss set", set_own_bit),
+    ("an edit repeated", repeat_edit),
+    ("two edits swapped", swap_edits),
+    ("another header number", give_other_header),
 ];
 
-/// Spoils a record that has at least one round and two edits.
-pub fn spoil(random: &mut Random, draft: &mut Draft) {
-    random.pick(&FAULTS)(random, draft);
+/// Spoils a record that has at least one round and two edits; says how.
+pub fn spoil(random: &mut Random, draft: &mut Draft) -> &'static str {
+    let (name, put) = random.pick(&FAULTS);
+    put(random, draft);
+    name
 }
 
 /// A longer form than the shortest: a last byte 0 after another byte.

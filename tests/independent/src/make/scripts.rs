@@ -3,44 +3,57 @@
 use super::composer::Composer;
 use crate::random::Random;
 use crate::script::call::Call;
+use crate::script::Script;
 
-pub fn script(random: &mut Random) -> Vec<Call> {
-    let shape = random.below(20);
+/// Every script makes the table fresh first and shows it last.
+pub fn script(random: &mut Random) -> Script {
+    let kind = random.below(20);
     let mut composer = Composer::new(random);
-    match shape {
+    composer.put(Call::Fresh);
+    let shape = match kind {
         0 => composer.fill_rounds(),
         1 => composer.fill_edits(),
         2 => composer.fill_everything(),
         3 | 4 => composer.never_open(),
         5..=9 => composer.scribble(),
         _ => composer.mix(),
-    }
-    composer.calls
+    };
+    composer.put(Call::Table);
+    Script { shape, calls: composer.calls }
 }
 
 impl Composer<'_> {
-    fn mix(&mut self) {
+    fn mix(&mut self) -> &'static str {
         self.open();
         for _ in 0..self.random.between(10, 90) {
             self.any_call();
         }
+        "calls of all kinds"
     }
 
     fn any_call(&mut self) {
         match self.random.below(100) {
-            0..=24 => self.round(),
-            25..=29 => self.round_badly(),
-            30..=49 => self.edit(),
-            50..=55 => self.edit_badly(),
-            56..=95 => self.ask(),
-            96 => self.open(),
-            97 | 98 => self.open_badly(),
+            0..=91 => self.any_call_but_opening(),
+            92..=94 => self.open(),
+            95..=97 => self.open_badly(),
             _ => self.reveal(),
         }
     }
 
+    fn any_call_but_opening(&mut self) {
+        match self.random.below(100) {
+            0..=23 => self.round(),
+            24..=30 => self.round_badly(),
+            31..=49 => self.edit(),
+            50..=57 => self.edit_badly(),
+            58..=95 => self.ask(),
+            96 | 97 => self.ask_everyone(),
+            _ => self.put(Call::Table),
+        }
+    }
+
     /// Alterations, most of them repaired after a few calls.
-    fn scribble(&mut self) {
+    fn scribble(&mut self) -> &'static str {
         self.open();
         for _ in 0..self.random.between(5, 20) {
             self.any_calls();
@@ -51,6 +64,7 @@ impl Composer<'_> {
             }
         }
         self.any_calls();
+        "a table altered between calls"
     }
 
     fn any_calls(&mut self) {
@@ -60,7 +74,7 @@ impl Composer<'_> {
     }
 
     /// A table that is asked before it is opened, or opened by hand.
-    fn never_open(&mut self) {
+    fn never_open(&mut self) -> &'static str {
         for _ in 0..self.random.between(1, 8) {
             self.any_call_but_opening();
         }
@@ -70,32 +84,24 @@ impl Composer<'_> {
         for _ in 0..self.random.between(5, 30) {
             self.any_call_but_opening();
         }
-    }
-
-    fn any_call_but_opening(&mut self) {
-        match self.random.below(10) {
-            0 | 1 => self.round(),
-            2 => self.round_badly(),
-            3 | 4 => self.edit(),
-            5 => self.edit_badly(),
-            _ => self.ask(),
-        }
+        "a table never opened"
     }
 
     /// All 127 rounds, with few questions and edits between.
-    fn fill_rounds(&mut self) {
+    fn fill_rounds(&mut self) -> &'static str {
         self.open();
         while self.table.rounds < 127 {
             self.round();
-            if self.random.chance(100) {
+            if self.random.chance(200) {
                 self.any_call_but_opening();
             }
         }
         self.after_filling();
+        "all 127 rounds"
     }
 
     /// All 512 edits, in a few rounds.
-    fn fill_edits(&mut self) {
+    fn fill_edits(&mut self) -> &'static str {
         self.open();
         while self.table.edits < 512 {
             self.put_rising_edit();
@@ -105,21 +111,25 @@ impl Composer<'_> {
             }
         }
         self.after_filling();
+        "all 512 edits"
     }
 
     /// All rounds and all edits: the longest table.
-    fn fill_everything(&mut self) {
+    fn fill_everything(&mut self) -> &'static str {
         self.put(Call::Open { seats: 7, bound: 6 });
         while self.table.rounds < 127 {
-            for _ in 0..4 {
-                self.put_rising_edit();
-            }
+            self.put_four_edits();
             self.round();
         }
+        self.put_four_edits();
+        self.after_filling();
+        "all 127 rounds and 512 edits"
+    }
+
+    fn put_four_edits(&mut self) {
         for _ in 0..4 {
             self.put_rising_edit();
         }
-        self.after_filling();
     }
 
     /// An edit by seat 0 whose cell rises with the count of edits, so that all fit.
@@ -153,9 +163,9 @@ mod tests {
         let mut met = BTreeMap::new();
         for _ in 0..count {
             let mut table = Table::never_opened();
-            for call in script(&mut random) {
+            for call in script(&mut random).calls {
                 let line = play::line(&mut table, &call);
-                let refusal = line.trim_end().split_once(" refused ");
+                let refusal = line.split_once(" refused ");
                 let number = refusal.map_or(0, |(_, number)| number.parse().unwrap());
                 *met.entry((call.name(), number)).or_insert(0) += 1;
             }
@@ -166,7 +176,8 @@ mod tests {
     #[test]
     fn scripts_reach_every_refusal_of_every_call() {
         let met = outcomes(300);
-        let expected: [(&str, &[u8]); 12] = [
+        let expected: [(&str, &[u8]); 14] = [
+            ("fresh", &[0]),
             ("open", &[0, 3]),
             ("round", &[0, 4, 10, 11, 19]),
             ("edit", &[0, 3, 5, 12, 19]),
@@ -179,6 +190,7 @@ mod tests {
             ("loser", &[0, 8, 19]),
             ("record", &[0, 7, 19]),
             ("alter", &[0]),
+            ("table", &[0]),
         ];
         for (name, numbers) in expected {
             for &number in numbers {
@@ -188,5 +200,40 @@ mod tests {
         }
         let possible: usize = expected.iter().map(|(_, numbers)| numbers.len()).sum();
         assert_eq!(met.len(), possible, "{met:?}");
+    }
+
+    /// A table as it was left is good or was never opened; one altered in between is
+    /// judged anew.
+    #[test]
+    fn alterations_keep_the_table_good_or_spoil_it() {
+        let mut random = Random::new(2);
+        let (mut kept, mut spoilt) = (0, 0);
+        for _ in 0..100 {
+            let mut table = Table::never_opened();
+            for call in script(&mut random).calls {
+                let before = table.record();
+                play::line(&mut table, &call);
+                if matches!(call, Call::Alter { .. }) && before.is_ok() {
+                    kept += u32::from(table.record().is_ok() && table.record() != before);
+                    spoilt += u32::from(table.record().is_err());
+                }
+            }
+        }
+        assert!(kept >= 50 && spoilt >= 50, "{kept} {spoilt}");
+    }
+
+    /// The other side's buffers have these sizes.
+    #[test]
+    fn rooms_and_lists_keep_to_their_limits() {
+        let mut random = Random::new(4);
+        for call in (0..300).flat_map(|_| script(&mut random).calls) {
+            match call {
+                Call::View { room, .. } | Call::Core { room, .. } => assert!(room <= 16),
+                Call::Marks { room, .. } => assert!(room <= 600),
+                Call::Record { room } => assert!(room <= 5_200),
+                Call::Round { sets } => assert!(sets.len() <= 16),
+                _ => (),
+            }
+        }
     }
 }

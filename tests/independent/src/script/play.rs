@@ -1,10 +1,12 @@
-//! Playing a script: one line for each call, and one for the table at the end.
+//! Playing a script: one line for each call.
 
 use super::call::Call;
 use crate::construction::Settled;
+use crate::hex;
 use crate::live::Table;
-use crate::place::{SeatSet, Time};
+use crate::place::Time;
 use crate::refusal::Refusal;
+use crate::seats::SeatSet;
 
 /// The numbers that lent buffers hold before a call, so that untouched places show.
 const LENT_NUMBER: Time = 1_000;
@@ -12,27 +14,23 @@ const LENT_BYTE: u8 = 200;
 
 type Words = Vec<String>;
 
-pub fn play(calls: &[Call]) -> String {
-    let mut table = Table::never_opened();
-    let mut text = String::new();
-    for call in calls {
-        text += &line(&mut table, call);
-    }
-    text + &format!("table {:08x}\n", table.checksum())
-}
-
-/// Makes one call on the table; gives the line that it prints.
+/// Makes one call on the table; gives the line that it prints, without its newline.
 pub fn line(table: &mut Table, call: &Call) -> String {
     let mut words = vec![call.name().to_string()];
     words.extend(match answer(table, call) {
         Ok(answer) => answer,
         Err(refusal) => vec!["refused".to_string(), refusal.number().to_string()],
     });
-    words.join(" ") + "\n"
+    words.join(" ")
 }
 
 fn answer(table: &mut Table, call: &Call) -> Result<Words, Refusal> {
     match call {
+        Call::Fresh => {
+            *table = Table::never_opened();
+            Ok(done(()))
+        }
+        Call::Table => Ok(vec![format!("{:08x}", table.checksum())]),
         Call::Open { seats, bound } => table.open(*seats, *bound).map(done),
         Call::Round { sets } => table.round(sets).map(done),
         Call::Edit { seat, cell, change } => table.edit(*seat, *cell, *change).map(done),
@@ -78,8 +76,7 @@ fn lend_numbers(
 fn record(table: &Table, room: usize) -> Result<Words, Refusal> {
     let mut bytes = vec![0; room];
     let length = table.write(&mut bytes)?;
-    let hexadecimal = bytes[..length].iter().map(|byte| format!("{byte:02x}")).collect();
-    Ok(vec![length.to_string(), hexadecimal])
+    Ok(vec![length.to_string(), hex::text(&bytes[..length])])
 }
 
 fn settled(settled: Settled) -> Words {
@@ -93,7 +90,7 @@ fn set(seats: SeatSet) -> Words {
     if seats.is_empty() {
         words(["none"])
     } else {
-        words(seats)
+        words(seats.iter())
     }
 }
 

@@ -6,7 +6,7 @@ use crate::record::read::tests::outcome;
 #[test]
 fn every_outcome_is_among_the_edges() {
     let mut outcomes = [0; 7];
-    for record in records() {
+    for Made { bytes: record, .. } in records() {
         let taken = &record[..record.len().min(TAKEN)];
         outcomes[usize::from(outcome(taken))] += 1;
     }
@@ -16,7 +16,7 @@ fn every_outcome_is_among_the_edges() {
 #[test]
 fn limits_are_good_and_one_past_them_is_refused() {
     let pages: Vec<String> =
-        rounds_and_edits_at_their_limits().iter().map(|record| page(record)).collect();
+        rounds_and_edits_at_their_limits().iter().map(|made| page(&made.bytes)).collect();
     let refused: Vec<bool> = pages.iter().map(|page| page == "refused 3\n").collect();
     let bare = [true, true];
     let rounds = [false, false, false, false, true, true];
@@ -26,7 +26,7 @@ fn limits_are_good_and_one_past_them_is_refused() {
 
 #[test]
 fn seats_and_bounds_are_good_exactly_in_their_ranges() {
-    for record in seats_and_bounds() {
+    for Made { bytes: record, .. } in seats_and_bounds() {
         let good = (2..=7).contains(&record[0]) && record[1] < record[0];
         assert_eq!(read(&record).is_ok(), good);
     }
@@ -34,13 +34,13 @@ fn seats_and_bounds_are_good_exactly_in_their_ranges() {
 
 #[test]
 fn the_longest_records_and_what_they_give() {
-    let outcomes: Vec<u8> = longest_records().iter().map(|record| outcome(record)).collect();
+    let outcomes: Vec<u8> = longest_records().iter().map(|made| outcome(&made.bytes)).collect();
     assert_eq!(outcomes, [0, 6, 6, 1]);
 }
 
 #[test]
 fn edits_out_of_order_and_what_they_give() {
     let outcomes: Vec<u8> =
-        faulty::faults_in_order_of_edits().iter().map(|record| outcome(record)).collect();
+        faulty::faults_in_order_of_edits().iter().map(|made| outcome(&made.bytes)).collect();
     assert_eq!(outcomes, [0, 5, 5, 5, 5, 5, 1, 1, 2, 3, 3, 3, 5, 6]);
 }

@@ -1,5 +1,11 @@
 use super::*;
 
+/// The lines of calls on a table that was never opened.
+fn play(calls: &[Call]) -> String {
+    let table = &mut Table::never_opened();
+    calls.iter().map(|call| line(table, call) + "\n").collect()
+}
+
 #[test]
 fn the_lines_of_a_script() {
     let calls = [
@@ -48,13 +54,17 @@ record refused 7
 alter done
 marks
 ";
-    let text = play(&calls);
-    assert!(text.starts_with(expected), "{text}");
-    assert!(text[expected.len()..].starts_with("table "));
+    assert_eq!(play(&calls), expected);
 }
 
 #[test]
-fn an_empty_script_prints_its_table() {
+fn a_table_never_opened_has_its_checksum() {
     let sum = Table::never_opened().checksum();
-    assert_eq!(play(&[]), format!("table {sum:08x}\n"));
+    assert_eq!(play(&[Call::Table]), format!("table {sum:08x}\n"));
+}
+
+#[test]
+fn fresh_undoes_every_change() {
+    let calls = [Call::Open { seats: 3, bound: 1 }, Call::Fresh, Call::Loser { seat: 0 }];
+    assert_eq!(play(&calls), "open done\nfresh done\nloser refused 19\n");
 }
