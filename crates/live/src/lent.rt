@@ -1,5 +1,16 @@
-// Questions on the parts of a table, lent one by one: 19 first, and then the question on its used part.
+// Questions on the parts of a table, lent one by one: 19 first, and then the question on its used part. A host that holds its
+// table by value asks here.
 use crate::checking::judge_table;
+use crate::used::core_into_used;
+use crate::used::core_used;
+use crate::used::count_used;
+use crate::used::known_used;
+use crate::used::marks_used;
+use crate::used::settled_used;
+use crate::used::standing_used;
+use crate::used::view_into_used;
+use crate::used::view_used;
+use crate::used::write_used;
 use construction::sizes::Sizes;
 use farm::places::Seat;
 use farm::places::Time;
@@ -10,38 +21,17 @@ use questions::answers::Known;
 use questions::answers::SettledAnswer;
 use questions::answers::Standing;
 use questions::answers::Times;
-use questions::cores::ask_core;
-use questions::cores::ask_core_into;
-use questions::cores::ask_settled;
-use questions::marks::ask_count;
-use questions::marks::ask_marks;
-use questions::views::ask_known;
-use questions::views::ask_standing;
-use questions::views::ask_view;
-use questions::views::ask_view_into;
 use record::writing::Written;
-use record::writing::write;
 ghost use mathlib.Core.Path.{_≡_};
-ghost use Prim.Native.Nat.{_*_, _≤_};
-ghost use lib.ListN.{length, take};
+ghost use lib.ListN.{length};
 ghost use Rattle.farm.specs.Limits.{limits};
-ghost use Rattle.record.specs.Answers.{listsOf, writtenIn};
-ghost use Rattle.record.specs.Writing.{answered, writtenTo, bufferWith, bufferAfter};
-ghost use Rattle.construction.specs.Counts.{farmFor};
-ghost use Rattle.questions.specs.Accepted.{Accepted, coreIn, marksOn, countOn};
-ghost use Rattle.questions.specs.Question.{byValue, buffer, viewIn, knownIn, settledIn, loserIn, viewAsked, knownAsked, settledAsked, coreAsked, marksAsked, countAsked, loserAsked};
+ghost use Rattle.record.specs.Answers.{writtenIn};
+ghost use Rattle.record.specs.Writing.{answered, bufferWith};
+ghost use Rattle.questions.specs.Question.{byValue, buffer, viewAsked, knownAsked, settledAsked, coreAsked, marksAsked, countAsked, loserAsked};
 ghost use Rattle.questions.specs.Answers.{knownAnswer, countAnswer, settledAnswer, standingAnswer, givenAnswer, into, timesAnswer};
-ghost use Rattle.live.specs.Used.{ArraysLong, tableReading, tableOf};
+ghost use Rattle.live.specs.Used.{tableReading, tableOf};
 
-// The used part of the loss sets alone is asked about.
-fn known_used(losses: &[u16], sizes: Sizes, seat: Seat, time: Time) -> Known
-    requires { ⌜ Accepted sizes × (length (now losses) ≡ 889) ⌝ }
-    ensures { λ r. ⌜ r ≡ knownAnswer (knownIn (farmFor sizes (take (sizes .seats * sizes .rounds) (now (losses .entry)))) seat time) ⌝ }
-{
-    let sets = sizes.seats as usize * sizes.rounds as usize;
-    ask_known(&losses[..sets], sizes, seat, time)
-}
-
+// The known set of a place's view.
 pub fn known_from<'a>(
     losses: &'a [u16; 889],
     editors: &'a [u8; 512],
@@ -82,14 +72,7 @@ pub fn known_from<'a>(
     )
 }
 
-fn settled_used(losses: &[u16], sizes: Sizes, seat: Seat, time: Time) -> SettledAnswer
-    requires { ⌜ Accepted sizes × (length (now losses) ≡ 889) ⌝ }
-    ensures { λ r. ⌜ r ≡ settledAnswer (settledIn byValue 0 (farmFor sizes (take (sizes .seats * sizes .rounds) (now (losses .entry)))) seat time) ⌝ }
-{
-    let sets = sizes.seats as usize * sizes.rounds as usize;
-    ask_settled(&losses[..sets], sizes, seat, time)
-}
-
+// Critical time, kept set and count of steps.
 pub fn settled_from<'a>(
     losses: &'a [u16; 889],
     editors: &'a [u8; 512],
@@ -130,14 +113,7 @@ pub fn settled_from<'a>(
     )
 }
 
-fn standing_used(losses: &[u16], sizes: Sizes, seat: Seat) -> Standing
-    requires { ⌜ Accepted sizes × (length (now losses) ≡ 889) ⌝ }
-    ensures { λ r. ⌜ r ≡ standingAnswer (loserIn (farmFor sizes (take (sizes .seats * sizes .rounds) (now (losses .entry)))) seat) ⌝ }
-{
-    let sets = sizes.seats as usize * sizes.rounds as usize;
-    ask_standing(&losses[..sets], sizes, seat)
-}
-
+// Whether a seat is a loser of the record so far, or clean.
 pub fn standing_from<'a>(
     losses: &'a [u16; 889],
     editors: &'a [u8; 512],
@@ -176,14 +152,7 @@ pub fn standing_from<'a>(
     )
 }
 
-fn view_used(losses: &[u16], sizes: Sizes, seat: Seat, time: Time) -> Times
-    requires { ⌜ Accepted sizes × (length (now losses) ≡ 889) ⌝ }
-    ensures { λ r. ⌜ r ≡ timesAnswer (viewIn byValue (farmFor sizes (take (sizes .seats * sizes .rounds) (now (losses .entry)))) seat time) ⌝ }
-{
-    let sets = sizes.seats as usize * sizes.rounds as usize;
-    ask_view(&losses[..sets], sizes, seat, time)
-}
-
+// The view of a place, by value.
 pub fn view_from<'a>(
     losses: &'a [u16; 889],
     editors: &'a [u8; 512],
@@ -227,14 +196,7 @@ pub fn view_from<'a>(
     )
 }
 
-fn core_used(losses: &[u16], sizes: Sizes, seat: Seat, time: Time) -> Times
-    requires { ⌜ Accepted sizes × (length (now losses) ≡ 889) ⌝ }
-    ensures { λ r. ⌜ r ≡ timesAnswer (coreIn byValue (farmFor sizes (take (sizes .seats * sizes .rounds) (now (losses .entry)))) seat time) ⌝ }
-{
-    let sets = sizes.seats as usize * sizes.rounds as usize;
-    ask_core(&losses[..sets], sizes, seat, time)
-}
-
+// The core of a place, by value.
 pub fn core_from<'a>(
     losses: &'a [u16; 889],
     editors: &'a [u8; 512],
@@ -278,16 +240,7 @@ pub fn core_from<'a>(
     )
 }
 
-fn view_into_used(losses: &[u16], sizes: Sizes, seat: Seat, time: Time, out: &mut [i16]) -> Given
-    requires { ⌜ Accepted sizes × (length (now losses) ≡ 889) ⌝ }
-    ensures { λ r.
-        ⌜ (r ≡ givenAnswer (viewIn (buffer (length (now (out .entry)))) (farmFor sizes (take (sizes .seats * sizes .rounds) (now (losses .entry)))) seat time))
-        × (now (out .exit) ≡ into (viewIn (buffer (length (now (out .entry)))) (farmFor sizes (take (sizes .seats * sizes .rounds) (now (losses .entry)))) seat time) (now (out .entry))) ⌝ }
-{
-    let sets = sizes.seats as usize * sizes.rounds as usize;
-    ask_view_into(&losses[..sets], sizes, seat, time, out)
-}
-
+// The view of a place, into a lent buffer of at least n numbers.
 pub fn view_into_from<'a, 'b>(
     losses: &'a [u16; 889],
     editors: &'a [u8; 512],
@@ -332,16 +285,7 @@ pub fn view_into_from<'a, 'b>(
     )
 }
 
-fn core_into_used(losses: &[u16], sizes: Sizes, seat: Seat, time: Time, out: &mut [i16]) -> Given
-    requires { ⌜ Accepted sizes × (length (now losses) ≡ 889) ⌝ }
-    ensures { λ r.
-        ⌜ (r ≡ givenAnswer (coreIn (buffer (length (now (out .entry)))) (farmFor sizes (take (sizes .seats * sizes .rounds) (now (losses .entry)))) seat time))
-        × (now (out .exit) ≡ into (coreIn (buffer (length (now (out .entry)))) (farmFor sizes (take (sizes .seats * sizes .rounds) (now (losses .entry)))) seat time) (now (out .entry))) ⌝ }
-{
-    let sets = sizes.seats as usize * sizes.rounds as usize;
-    ask_core_into(&losses[..sets], sizes, seat, time, out)
-}
-
+// The core of a place, into a lent buffer of at least n numbers.
 pub fn core_into_from<'a, 'b>(
     losses: &'a [u16; 889],
     editors: &'a [u8; 512],
@@ -386,30 +330,7 @@ pub fn core_into_from<'a, 'b>(
     )
 }
 
-fn count_used<'a>(
-    losses: &'a [u16],
-    editors: &'a [u8],
-    times: &'a [u16],
-    sizes: Sizes,
-    edits: u16,
-    seat: Seat,
-    time: Time,
-) -> Count
-    requires { ⌜ Accepted sizes × (length (now losses) ≡ 889) × (length (now editors) ≡ 512) × (length (now times) ≡ 512) × (edits ≤ 512) ⌝ }
-    ensures { λ r. ⌜ r ≡ countAnswer (countOn (farmFor sizes (take (sizes .seats * sizes .rounds) (now (losses .entry)))) (take edits (now (editors .entry))) (take edits (now (times .entry))) seat time) ⌝ }
-{
-    let sets = sizes.seats as usize * sizes.rounds as usize;
-    let held = edits as usize;
-    ask_count(
-        &losses[..sets],
-        &editors[..held],
-        &times[..held],
-        sizes,
-        seat,
-        time,
-    )
-}
-
+// How many edits of the record so far are in the core of a place.
 pub fn count_from<'a>(
     losses: &'a [u16; 889],
     editors: &'a [u8; 512],
@@ -453,34 +374,7 @@ pub fn count_from<'a>(
     )
 }
 
-fn marks_used<'a, 'b>(
-    losses: &'a [u16],
-    editors: &'a [u8],
-    times: &'a [u16],
-    sizes: Sizes,
-    edits: u16,
-    seat: Seat,
-    time: Time,
-    out: &'b mut [u8],
-) -> Given
-    requires { ⌜ Accepted sizes × (length (now losses) ≡ 889) × (length (now editors) ≡ 512) × (length (now times) ≡ 512) × (edits ≤ 512) ⌝ }
-    ensures { λ r.
-        ⌜ (r ≡ givenAnswer (marksOn (buffer (length (now (out .entry)))) (farmFor sizes (take (sizes .seats * sizes .rounds) (now (losses .entry)))) (take edits (now (editors .entry))) (take edits (now (times .entry))) seat time))
-        × (now (out .exit) ≡ into (marksOn (buffer (length (now (out .entry)))) (farmFor sizes (take (sizes .seats * sizes .rounds) (now (losses .entry)))) (take edits (now (editors .entry))) (take edits (now (times .entry))) seat time) (now (out .entry))) ⌝ }
-{
-    let sets = sizes.seats as usize * sizes.rounds as usize;
-    let held = edits as usize;
-    ask_marks(
-        &losses[..sets],
-        &editors[..held],
-        &times[..held],
-        sizes,
-        seat,
-        time,
-        out,
-    )
-}
-
+// Edit marks into a lent buffer of at least as many bytes as there are edits: 1 in the core, 0 outside.
 pub fn marks_from<'a, 'b>(
     losses: &'a [u16; 889],
     editors: &'a [u8; 512],
@@ -528,39 +422,7 @@ pub fn marks_from<'a, 'b>(
     )
 }
 
-fn write_used<'a, 'b>(
-    losses: &'a [u16],
-    editors: &'a [u8],
-    times: &'a [u16],
-    cells: &'a [u32],
-    changes: &'a [i16],
-    seats: u8,
-    bound: u8,
-    rounds: u16,
-    edits: u16,
-    out: &'b mut [u8],
-) -> Written
-    requires { ⌜ ArraysLong (now losses) (now editors) (now times) (now cells) (now changes) × (seats ≤ 7) × (rounds ≤ 127) × (edits ≤ 512) ⌝ }
-    ensures { λ r.
-        ⌜ (r ≡ writtenIn (writtenTo limits seats bound rounds (listsOf (take (seats * rounds) (now (losses .entry))) (take edits (now (editors .entry))) (take edits (now (times .entry))) (take edits (now (cells .entry))) (take edits (now (changes .entry)))) (length (now (out .entry)))))
-        × (now (out .exit) ≡ bufferAfter limits seats bound rounds (listsOf (take (seats * rounds) (now (losses .entry))) (take edits (now (editors .entry))) (take edits (now (times .entry))) (take edits (now (cells .entry))) (take edits (now (changes .entry)))) (now (out .entry))) ⌝ }
-{
-    let sets = seats as usize * rounds as usize;
-    let held = edits as usize;
-    write(
-        seats,
-        bound,
-        rounds,
-        &losses[..sets],
-        &editors[..held],
-        &times[..held],
-        &cells[..held],
-        &changes[..held],
-        out,
-    )
-}
-
-// The record so far as bytes: 19, 7.
+// The record so far as bytes, into a lent buffer: 19, 7.
 pub fn write_from<'a, 'b>(
     losses: &'a [u16; 889],
     editors: &'a [u8; 512],

@@ -4,6 +4,7 @@ pub mod answers; // answers.rt: what a call answers
 pub mod asks; // asks.rt: questions on a `&` to the table
 pub mod calls; // calls.rt: the calls on a `&mut` to the table
 mod checking; // checking.rt: whether the used part of a table is a good record
-mod lent; // lent.rt: questions on the parts of a table, lent one by one
-mod steps; // steps.rt: each call as a step by value
+pub mod lent; // lent.rt: questions on the parts of a table, lent one by one
+pub mod steps; // steps.rt: each call as a step by value
 pub mod table; // table.rt: the table itself
+mod used; // used.rt: questions on the used part of an accepted table's arrays

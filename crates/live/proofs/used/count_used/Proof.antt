@@ -1,4 +1,4 @@
--- `live::lent::count_used` meets its contract: the used part of an accepted record lies inside the arrays.
+-- `live::used::count_used` meets its contract: the used part of an accepted record lies inside the arrays.
 -- Assumes nothing.
 use borrow.Author.Needs.{needs}
 use mathlib.Core.Path.{sym, _∙_}
@@ -6,8 +6,8 @@ use Prim.Native.Nat.{_*_, _≤_}
 use native.Mathlib.Omega.{arith}
 use lib.Seq.{length-take-le}
 use Rattle.live.proofs.StepLaws.{sets-fit}
-use Rattle.live.proofs.lent.count_used.Statement.{statement}
-use Rattle.live.proofs.lent.count_used.Tie as tie
+use Rattle.live.proofs.used.count_used.Statement.{statement}
+use Rattle.live.proofs.used.count_used.Tie as tie
 
 cast-sets : tie.Need-cast-sets
 cast-sets c = search needs

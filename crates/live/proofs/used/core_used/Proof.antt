@@ -1,4 +1,4 @@
--- `live::lent::known_used` meets its contract: the used sets of an accepted record lie inside the array.
+-- `live::used::core_used` meets its contract: the used sets of an accepted record lie inside the array.
 -- Assumes nothing.
 use borrow.Author.Needs.{needs}
 use mathlib.Core.Path.{sym}
@@ -6,8 +6,8 @@ use Prim.Native.Nat.{_*_, _≤_}
 use native.Mathlib.Omega.{arith}
 use lib.Seq.{length-take-le}
 use Rattle.live.proofs.StepLaws.{sets-fit}
-use Rattle.live.proofs.lent.known_used.Statement.{statement}
-use Rattle.live.proofs.lent.known_used.Tie as tie
+use Rattle.live.proofs.used.core_used.Statement.{statement}
+use Rattle.live.proofs.used.core_used.Tie as tie
 
 cast-sets : tie.Need-cast-sets
 cast-sets c = search needs
@@ -21,19 +21,19 @@ mul-sets c =
     let small : s .args .sizes .seats * s .args .sizes .rounds ≤ 889 = sets-fit _ _ (s .pre .0 .seats) (s .pre .0 .rounds) in
     omega arith
 
-slice-aggregate-ask-known : tie.Need-slice-aggregate-ask-known
-slice-aggregate-ask-known c =
+slice-aggregate-ask-core : tie.Need-slice-aggregate-ask-core
+slice-aggregate-ask-core c =
     let s = c .before .before .before .before in
     let small : s .args .sizes .seats * s .args .sizes .rounds ≤ 889 = sets-fit _ _ (s .pre .0 .seats) (s .pre .0 .rounds) in
     sym (length-take-le _ _ (omega arith))
 
-ask-known-requires : tie.Need-ask-known-requires
-ask-known-requires c κs = search needs
+ask-core-requires : tie.Need-ask-core-requires
+ask-core-requires c κs = search needs
 
 returns : tie.Need-returns
 returns c = search needs
 
-pub known-used-spec : {M : Type 1} → statement M
-known-used-spec =
+pub core-used-spec : {M : Type 1} → statement M
+core-used-spec =
     tie.close
-    (tie.spec cast-sets cast-sets-2 mul-sets slice-aggregate-ask-known ask-known-requires returns)
+    (tie.spec cast-sets cast-sets-2 mul-sets slice-aggregate-ask-core ask-core-requires returns)

@@ -1,4 +1,4 @@
--- `live::lent::standing_used` meets its contract: the used sets of an accepted record lie inside the array.
+-- `live::used::view_used` meets its contract: the used sets of an accepted record lie inside the array.
 -- Assumes nothing.
 use borrow.Author.Needs.{needs}
 use mathlib.Core.Path.{sym}
@@ -6,8 +6,8 @@ use Prim.Native.Nat.{_*_, _≤_}
 use native.Mathlib.Omega.{arith}
 use lib.Seq.{length-take-le}
 use Rattle.live.proofs.StepLaws.{sets-fit}
-use Rattle.live.proofs.lent.standing_used.Statement.{statement}
-use Rattle.live.proofs.lent.standing_used.Tie as tie
+use Rattle.live.proofs.used.view_used.Statement.{statement}
+use Rattle.live.proofs.used.view_used.Tie as tie
 
 cast-sets : tie.Need-cast-sets
 cast-sets c = search needs
@@ -21,19 +21,19 @@ mul-sets c =
     let small : s .args .sizes .seats * s .args .sizes .rounds ≤ 889 = sets-fit _ _ (s .pre .0 .seats) (s .pre .0 .rounds) in
     omega arith
 
-slice-aggregate-ask-standing : tie.Need-slice-aggregate-ask-standing
-slice-aggregate-ask-standing c =
+slice-aggregate-ask-view : tie.Need-slice-aggregate-ask-view
+slice-aggregate-ask-view c =
     let s = c .before .before .before .before in
     let small : s .args .sizes .seats * s .args .sizes .rounds ≤ 889 = sets-fit _ _ (s .pre .0 .seats) (s .pre .0 .rounds) in
     sym (length-take-le _ _ (omega arith))
 
-ask-standing-requires : tie.Need-ask-standing-requires
-ask-standing-requires c κs = search needs
+ask-view-requires : tie.Need-ask-view-requires
+ask-view-requires c κs = search needs
 
 returns : tie.Need-returns
 returns c = search needs
 
-pub standing-used-spec : {M : Type 1} → statement M
-standing-used-spec =
+pub view-used-spec : {M : Type 1} → statement M
+view-used-spec =
     tie.close
-    (tie.spec cast-sets cast-sets-2 mul-sets slice-aggregate-ask-standing ask-standing-requires returns)
+    (tie.spec cast-sets cast-sets-2 mul-sets slice-aggregate-ask-view ask-view-requires returns)

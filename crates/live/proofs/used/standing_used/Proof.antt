@@ -1,4 +1,4 @@
--- `live::lent::settled_used` meets its contract: the used sets of an accepted record lie inside the array.
+-- `live::used::standing_used` meets its contract: the used sets of an accepted record lie inside the array.
 -- Assumes nothing.
 use borrow.Author.Needs.{needs}
 use mathlib.Core.Path.{sym}
@@ -6,8 +6,8 @@ use Prim.Native.Nat.{_*_, _≤_}
 use native.Mathlib.Omega.{arith}
 use lib.Seq.{length-take-le}
 use Rattle.live.proofs.StepLaws.{sets-fit}
-use Rattle.live.proofs.lent.settled_used.Statement.{statement}
-use Rattle.live.proofs.lent.settled_used.Tie as tie
+use Rattle.live.proofs.used.standing_used.Statement.{statement}
+use Rattle.live.proofs.used.standing_used.Tie as tie
 
 cast-sets : tie.Need-cast-sets
 cast-sets c = search needs
@@ -21,19 +21,19 @@ mul-sets c =
     let small : s .args .sizes .seats * s .args .sizes .rounds ≤ 889 = sets-fit _ _ (s .pre .0 .seats) (s .pre .0 .rounds) in
     omega arith
 
-slice-aggregate-ask-settled : tie.Need-slice-aggregate-ask-settled
-slice-aggregate-ask-settled c =
+slice-aggregate-ask-standing : tie.Need-slice-aggregate-ask-standing
+slice-aggregate-ask-standing c =
     let s = c .before .before .before .before in
     let small : s .args .sizes .seats * s .args .sizes .rounds ≤ 889 = sets-fit _ _ (s .pre .0 .seats) (s .pre .0 .rounds) in
     sym (length-take-le _ _ (omega arith))
 
-ask-settled-requires : tie.Need-ask-settled-requires
-ask-settled-requires c κs = search needs
+ask-standing-requires : tie.Need-ask-standing-requires
+ask-standing-requires c κs = search needs
 
 returns : tie.Need-returns
 returns c = search needs
 
-pub settled-used-spec : {M : Type 1} → statement M
-settled-used-spec =
+pub standing-used-spec : {M : Type 1} → statement M
+standing-used-spec =
     tie.close
-    (tie.spec cast-sets cast-sets-2 mul-sets slice-aggregate-ask-settled ask-settled-requires returns)
+    (tie.spec cast-sets cast-sets-2 mul-sets slice-aggregate-ask-standing ask-standing-requires returns)

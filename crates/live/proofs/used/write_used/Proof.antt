@@ -1,4 +1,4 @@
--- `live::lent::write_used` meets its contract: the used part lies inside the arrays.
+-- `live::used::write_used` meets its contract: the used part lies inside the arrays.
 -- Assumes nothing.
 use borrow.Author.Needs.{needs}
 use mathlib.Core.Path.{sym}
@@ -6,8 +6,8 @@ use Prim.Native.Nat.{_*_, _≤_}
 use native.Mathlib.Omega.{arith}
 use lib.Seq.{length-take-le}
 use Rattle.live.proofs.StepLaws.{sets-fit}
-use Rattle.live.proofs.lent.write_used.Statement.{statement}
-use Rattle.live.proofs.lent.write_used.Tie as tie
+use Rattle.live.proofs.used.write_used.Statement.{statement}
+use Rattle.live.proofs.used.write_used.Tie as tie
 
 mul-sets : tie.Need-mul-sets
 mul-sets c =

@@ -1,4 +1,4 @@
--- `live::lent::view_into_used` meets its contract: the used sets of an accepted record lie inside the array.
+-- `live::used::known_used` meets its contract: the used sets of an accepted record lie inside the array.
 -- Assumes nothing.
 use borrow.Author.Needs.{needs}
 use mathlib.Core.Path.{sym}
@@ -6,8 +6,8 @@ use Prim.Native.Nat.{_*_, _≤_}
 use native.Mathlib.Omega.{arith}
 use lib.Seq.{length-take-le}
 use Rattle.live.proofs.StepLaws.{sets-fit}
-use Rattle.live.proofs.lent.view_into_used.Statement.{statement}
-use Rattle.live.proofs.lent.view_into_used.Tie as tie
+use Rattle.live.proofs.used.known_used.Statement.{statement}
+use Rattle.live.proofs.used.known_used.Tie as tie
 
 cast-sets : tie.Need-cast-sets
 cast-sets c = search needs
@@ -21,22 +21,19 @@ mul-sets c =
     let small : s .args .sizes .seats * s .args .sizes .rounds ≤ 889 = sets-fit _ _ (s .pre .0 .seats) (s .pre .0 .rounds) in
     omega arith
 
-slice-aggregate-ask-view-into : tie.Need-slice-aggregate-ask-view-into
-slice-aggregate-ask-view-into c =
+slice-aggregate-ask-known : tie.Need-slice-aggregate-ask-known
+slice-aggregate-ask-known c =
     let s = c .before .before .before .before in
     let small : s .args .sizes .seats * s .args .sizes .rounds ≤ 889 = sets-fit _ _ (s .pre .0 .seats) (s .pre .0 .rounds) in
     sym (length-take-le _ _ (omega arith))
 
-ask-view-into-requires : tie.Need-ask-view-into-requires
-ask-view-into-requires c κs = search needs
-
-same-length : tie.Need-same-length
-same-length c = search needs
+ask-known-requires : tie.Need-ask-known-requires
+ask-known-requires c κs = search needs
 
 returns : tie.Need-returns
 returns c = search needs
 
-pub view-into-used-spec : {M : Type 1} → statement M
-view-into-used-spec =
+pub known-used-spec : {M : Type 1} → statement M
+known-used-spec =
     tie.close
-    (tie.spec cast-sets cast-sets-2 mul-sets slice-aggregate-ask-view-into ask-view-into-requires same-length returns)
+    (tie.spec cast-sets cast-sets-2 mul-sets slice-aggregate-ask-known ask-known-requires returns)
