@@ -77,13 +77,13 @@ same-step : (r s : Step) → r .answer ≡ s .answer → r .table ≡ s .table �
 same-step r s p q = λ i. record { answer = p i; table = q i }
 
 pub opened-complete : Complete opened.ended (λ M. opened.clauses {M = M})
-opened-complete M 𝓤 H A mem run κs a g r s v w = by-facts M 𝓤 _ _ _ (λ p q. (same-step _ _ cc cc, cc))
+opened-complete M 𝓤 H A mem run κs a g r s v w = by-facts M 𝓤 _ _ _ (λ p q. (same-step r s (cc) (cc), cc))
 
 pub with-round-complete : Complete with-round.ended (λ M. with-round.clauses {M = M})
-with-round-complete M 𝓤 H A mem run κs a g r s v w = by-facts M 𝓤 _ _ _ (λ p q. (same-step _ _ cc cc, cc))
+with-round-complete M 𝓤 H A mem run κs a g r s v w = by-facts M 𝓤 _ _ _ (λ p q. (same-step r s (cc) (cc), cc))
 
 pub with-edit-complete : Complete with-edit.ended (λ M. with-edit.clauses {M = M})
-with-edit-complete M 𝓤 H A mem run κs a g r s v w = by-facts M 𝓤 _ _ _ (λ p q. (same-step _ _ cc cc, cc))
+with-edit-complete M 𝓤 H A mem run κs a g r s v w = by-facts M 𝓤 _ _ _ (λ p q. (same-step r s (cc) (cc), cc))
 
 pub known-from-complete : Complete known-from.ended (λ M. known-from.clauses {M = M})
 known-from-complete M 𝓤 H A mem run κs a g r s v w = by-facts M 𝓤 _ _ _ (λ p q. (cc, cc))

@@ -6,30 +6,43 @@ use mathlib.Core.List.{List, [], _∷_, _++_}
 use Prim.Native.Nat.{ℕ, zero, suc, _+_, _-_, _*_, _≤_, _<_}
 use native.Mathlib.Nat.{mul-zero, mul-suc, zero-add, not-suc-le-zero}
 use native.Mathlib.Omega.{arith}
+use lib.IntN.{ℤ}
 use lib.ListN.{length, length-append}
 use borrow.Author.Tests.{eq-eqb, ne-eqb, ltb-true, eqb-true}
 use Rattle.farm.specs.Limits.{Limits, limits}
 use Rattle.farm.specs.Sets.{Seats}
 use Rattle.farm.proofs.Cases.{and-intro, and-elim}
+use Rattle.farm.specs.declared.places.Seat.{Seat}
 use Rattle.farm.specs.declared.refusals.Refusal.{Refusal}
 use Rattle.record.specs.declared.edits.Edit.{Edit}
 use Rattle.record.specs.declared.edits.Before.{Before}
 use Rattle.record.specs.declared.edits.Before.the-variants.{Nothing, This}
 use Rattle.record.specs.Edits.{follows}
+use Rattle.record.specs.Faults.{lastOf}
 use Rattle.record.specs.Losses.{goodSet}
 use Rattle.record.specs.Good.{senderAfter, goodSets, goodEdit, goodEdits, goodRecord}
 use Rattle.record.specs.Record.{Record}
 use Rattle.record.specs.Writing.{Verdict, accepted, unless}
-use Rattle.record.proofs.GoodLaws.{header-facts, header-from-facts, edit-facts, edit-from-facts, RecordFacts, record-from-facts}
-use Rattle.live.specs.Calls.{openedRecord, withRound, withEdit, lastOf, openingVerdict, roundVerdict, editVerdict}
+use Rattle.record.proofs.GoodLaws.{header-facts, header-from-facts, edit-facts, edit-from-facts, record-facts, record-from-facts}
+use Rattle.live.specs.Calls.{opening, round, edit, openedRecord, withRound, presentEdit, withEdit, Test, testsOf, firstFailing}
 
--- ════ Verdicts ════
+-- ════ Tests ════
 
--- Where the verdict is to accept, the test passed and so did the rest.
-pub unless-accepted : (test : Bool) (r : Refusal) (later : Verdict) → unless test r later ≡ accepted → (test ≡ true) × (later ≡ accepted)
+-- Every test passes.
+abbrev pub AllPass : List Test → Type 0
+AllPass [] = Unit {0}
+AllPass ((passes, refusal) ∷ tests) = (passes ≡ true) × AllPass tests
+
+unless-accepted : (test : Bool) (r : Refusal) (later : Verdict) → unless test r later ≡ accepted → (test ≡ true) × (later ≡ accepted)
 unfolding unless
 unless-accepted true r later e = (refl, e)
 unless-accepted false r later e = absurd (true≢false (cc))
+
+pub all-pass : (tests : List Test) → firstFailing tests ≡ accepted → AllPass tests
+unfolding firstFailing
+all-pass [] e = tt
+all-pass ((passes, refusal) ∷ tests) e =
+    let p = unless-accepted passes refusal (firstFailing tests) e in (p .0, all-pass tests (p .1))
 
 -- ════ Senders ════
 
@@ -92,53 +105,46 @@ edits-append L n R before (x ∷ edits) e h g f =
 
 -- ════ The three calls ════
 
-pub opened-good : (n t : ℕ) → openingVerdict n t ≡ accepted → goodRecord limits (openedRecord n t) ≡ true
-unfolding openingVerdict goodSets goodEdits
-opened-good n t v =
+pub opened-good : (n t : ℕ) (r : Record) → AllPass (testsOf (opening n t) r) → goodRecord limits (openedRecord n t) ≡ true
+unfolding testsOf goodSets goodEdits
+opened-good n t r (header, none) =
     record-from-facts limits (openedRecord n t) (record {
-      header = unless-accepted _ _ _ v .0;
+      header = header;
       lossCount = sym (mul-zero n);
       losses = refl;
       editCount = refl;
       edits = refl;
     })
 
-pub round-length : (sets : List Seats) (r : Record) → roundVerdict sets r ≡ accepted → length sets ≡ r .header .seats
-unfolding roundVerdict
-round-length sets r v = eqb-true _ _ (unless-accepted _ _ _ (unless-accepted _ _ _ v .1) .0)
-
-pub round-good : (sets : List Seats) (r : Record) → RecordFacts limits r → roundVerdict sets r ≡ accepted
-    → goodRecord limits (withRound sets r) ≡ true
-unfolding roundVerdict
-round-good sets r f v =
-    let room = unless-accepted _ _ _ v in
-    let fits = unless-accepted _ _ _ (room .1) in
-    let sound = unless-accepted _ _ _ (fits .1) in
+pub round-good : (sets : List Seats) (r : Record) → AllPass (testsOf (round sets) r) → goodRecord limits (withRound sets r) ≡ true
+unfolding testsOf
+round-good sets r (whole, (room, (fits, (sound, none)))) =
+    let f = record-facts limits r whole in
     let h = header-facts limits (r .header) (f .header) in
-    let less : r .header .rounds < limits .mostRounds = ltb-true _ _ (room .0) in
-    let long = round-length sets r v in
+    let less : r .header .rounds < limits .mostRounds = ltb-true _ _ room in
+    let long : length sets ≡ r .header .seats = eqb-true _ _ fits in
     record-from-facts limits (withRound sets r) (record {
       header = header-from-facts limits (withRound sets r .header) (record { fewest = h .fewest; most = h .most; bound = h .bound; rounds = omega arith; edits = h .edits });
       lossCount = rw (length-append, f .lossCount, long) (omega arith);
       losses =
           sets-append (r .header .seats) 0 (r .losses) sets (f .losses)
-          (rw (f .lossCount, rounds-end (r .header .seats) (r .header .rounds) (omega (arith, h .fewest))) (sound .0));
+          (rw (f .lossCount, rounds-end (r .header .seats) (r .header .rounds) (omega (arith, h .fewest))) sound);
       editCount = f .editCount;
       edits = edits-with-round limits (r .header .seats) (r .header .rounds) Nothing (r .edits) (f .edits);
     })
 
-pub edit-good : (e : Edit) (r : Record) → RecordFacts limits r → editVerdict e r ≡ accepted → goodRecord limits (withEdit e r) ≡ true
-unfolding editVerdict
-edit-good e r f v =
-    let fits = unless-accepted _ _ _ v in
-    let room = unless-accepted _ _ _ (fits .1) in
-    let rising = unless-accepted _ _ _ (room .1) in
+pub edit-good : (seat : Seat) (cell : ℕ) (change : ℤ) (r : Record) → AllPass (testsOf (edit seat cell change) r)
+    → goodRecord limits (withEdit (presentEdit seat cell change r) r) ≡ true
+unfolding testsOf
+edit-good seat cell change r (whole, (fits, (room, (rising, none)))) =
+    let f = record-facts limits r whole in
     let h = header-facts limits (r .header) (f .header) in
-    let less : r .header .edits < limits .mostEdits = ltb-true _ _ (room .0) in
+    let less : r .header .edits < limits .mostEdits = ltb-true _ _ room in
+    let e = presentEdit seat cell change r in
     record-from-facts limits (withEdit e r) (record {
       header = header-from-facts limits (withEdit e r .header) (record { fewest = h .fewest; most = h .most; bound = h .bound; rounds = h .rounds; edits = omega arith });
       lossCount = f .lossCount;
       losses = f .losses;
       editCount = rw (length-append, f .editCount);
-      edits = edits-append limits (r .header .seats) (r .header .rounds) Nothing (r .edits) e (f .edits) (fits .0) (rising .0);
+      edits = edits-append limits (r .header .seats) (r .header .rounds) Nothing (r .edits) e (f .edits) fits rising;
     })

@@ -13,5 +13,6 @@ pub mod Picked
 pub mod Live
 pub mod Parts
 pub mod Stepped
+pub mod ContractRuns
 pub mod CompleteLaws
 pub mod Promises

@@ -1,21 +1,24 @@
 -- Lists that grow behind their used part.
 -- Assumes nothing.
 use mathlib.Core.Path.{_≡_, refl, sym, _∙_, ap}
-use mathlib.Core.List.{List, [], _∷_, _++_, append-assoc, append-nil}
+use mathlib.Core.List.{List, [], _∷_, _++_, append-assoc}
 use Prim.Native.Nat.{ℕ, suc, _+_, _≤_, _<_}
 use native.Mathlib.Nat.{suc-ne-zero}
 use native.Mathlib.Numerals.{add-one}
 use native.Mathlib.Omega.{arith}
 use lib.IntN.{ℤ}
-use lib.ListN.{length, take, drop, getD, set, length-append, take-append-drop}
-use lib.Seq.{take-at, take-all, take-suc, drop-cons, set-at, append-snoc, length-take-le}
-use Rattle.record.specs.Tables.{editOf, editsFrom}
-use Rattle.live.specs.Calls.{behind}
+use lib.ListN.{length, take, drop, getD, set, length-append, drop-of-length-le}
+use lib.Seq.{take-at, drop-cons}
+use Rattle.record.specs.Tables.{over, editOf, editsFrom}
+use Rattle.record.proofs.TableLaws.{over-none, over-first}
 
 -- The used part afterwards is the old one with the new entries.
 pub take-behind : {A : Type 0} (used more : ℕ) (new old : List A) → length (take used old) ≡ used → used + length new ≡ more
-    → take more (behind used new old) ≡ take used old ++ new
-take-behind used more new old h e = take-at (take used old ++ new) (drop (used + length new) old) more (rw (length-append, h) e)
+    → take more (over used new old) ≡ take used old ++ new
+unfolding over
+take-behind used more new old h e =
+    rw (← append-assoc (take used old) new (drop (used + length new) old))
+    (take-at (take used old ++ new) (drop (used + length new) old) more (rw (length-append, h) e))
 
 -- Four lists that grow by one entry each hold one edit more.
 pub edits-from-append : (seats times cells : List ℕ) (changes : List ℤ) (s t c : ℕ) (d : ℤ)
@@ -62,38 +65,21 @@ edits-from-covered (x ∷ seats) (y ∷ times) (z ∷ cells) [] = omega arith
 edits-from-covered (x ∷ seats) (y ∷ times) (z ∷ cells) (w ∷ changes) =
     let rest = edits-from-covered seats times cells changes in omega arith
 
--- ════ A loop that puts entries behind the used ones ════
+-- ════ A loop that puts entries over a list ════
 
 module _ {A : Type 0} where
-  -- Nothing put: the list as it was.
-  pub behind-none : (used : ℕ) (new old : List A) → behind used (take 0 new) old ≡ old
-  behind-none used new old =
-      let none : take 0 new ≡ [] = refl in
-      let same : used + length (take 0 new) ≡ used = omega arith in
-      rw (same, none, append-nil (take used old)) (take-append-drop used old)
+  -- One entry put: the entries after it are left to put.
+  pub over-turn : (at i : ℕ) (new old : List A) (d : A) → i < length new → at + i < length old
+      → over (at + (i + 1)) (drop (i + 1) new) (set old (at + i) (getD new i d)) ≡ over (at + i) (drop i new) old
+  over-turn at i new old d a b =
+      let next : at + (i + 1) ≡ at + i + 1 = omega arith in
+      let from : i + 1 ≡ suc i = add-one i in
+      rw (drop-cons new i d a, next, from) (sym (over-first (at + i) (getD new i d) (drop (suc i) new) old b))
 
-  -- One entry more.
-  pub behind-turn : (used i : ℕ) (new old now : List A) (x d : A) → i < length new → used + length new ≤ length old
-      → now ≡ behind used (take i new) old → x ≡ getD new i d → set now (used + i) x ≡ behind used (take (i + 1) new) old
-  behind-turn used i new old now x d a b e ex =
-      let front : length (take i new) ≡ i = length-take-le i new (omega arith) in
-      let more : length (take (i + 1) new) ≡ i + 1 = length-take-le (i + 1) new (omega arith) in
-      let used-front : length (take used old) ≡ used = length-take-le used old (omega arith) in
-      let here : length (take used old ++ take i new) ≡ used + i = rw (length-append, front, used-front) in
-      let next : used + length (take (i + 1) new) ≡ suc (used + i) = omega arith in
-      let cut : drop (used + length (take i new)) old ≡ getD old (used + i) d ∷ drop (suc (used + i)) old = rw front (drop-cons old (used + i) d (omega arith)) in
-      let longer : take (i + 1) new ≡ take i new ++ (getD new i d ∷ []) = rw add-one (take-suc new i d a) in
-      ap (λ (l : List A). set l (used + i) x) (e ∙ ap (λ (l : List A). take used old ++ take i new ++ l) cut)
-      ∙ set-at (take used old ++ take i new) (getD old (used + i) d) (drop (suc (used + i)) old) x (used + i) here
-      ∙ sym (append-snoc (take used old ++ take i new) x (drop (suc (used + i)) old))
-      ∙ ap (λ (l : List A). l ++ drop (suc (used + i)) old) (append-assoc (take used old) (take i new) (x ∷ []) ∙ ap (λ (l : List A). take used old ++ l) (ap (λ (y : A). take i new ++ (y ∷ [])) ex ∙ sym longer))
-      ∙ ap (λ (k : ℕ). take used old ++ take (i + 1) new ++ drop k old) (sym next)
-
-  pub behind-whole : (used i : ℕ) (new old now : List A) → length new ≤ i → now ≡ behind used (take i new) old → now ≡ behind used new old
-  behind-whole used i new old now h e = e ∙ ap (λ (l : List A). behind used l old) (take-all i new h)
+  -- Nothing is left to put.
+  pub over-done : (at i : ℕ) (new old : List A) → length new ≤ i → over at (drop i new) old ≡ old
+  over-done at i new old h = ap (λ (l : List A). over at l old) (drop-of-length-le new h) ∙ over-none at old
 
   -- One entry put by itself.
-  pub behind-one : (used : ℕ) (x : A) (old : List A) → used < length old → set old used x ≡ behind used (x ∷ []) old
-  behind-one used x old h =
-      let same : used + 0 ≡ used = omega arith in
-      ap (λ (k : ℕ). set old k x) (sym same) ∙ behind-turn used 0 (x ∷ []) old old x x (omega arith) (omega arith) (sym (behind-none used (x ∷ []) old)) refl
+  pub over-one : (at : ℕ) (x : A) (old : List A) → at < length old → set old at x ≡ over at (x ∷ []) old
+  over-one at x old h = sym (over-first at x [] old h ∙ over-none (at + 1) (set old at x))

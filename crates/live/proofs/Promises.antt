@@ -11,9 +11,10 @@ use Rattle.record.specs.Record.{Record, good, bad}
 use Rattle.record.proofs.Promises.{document-numbers-fit, reads-exactly-good-records}
 use Rattle.record.proofs.ReadBack.{reading-back}
 use Rattle.live.specs.declared.table.Table.{Table}
+use Rattle.questions.specs.Question.{onRecord}
 use Rattle.live.specs.Calls.{tableAfter, keptOr}
 use Rattle.live.specs.Used.{usedRecord, tableReading}
-use Rattle.live.specs.Promises.{Table-refused-exactly-when-not-good, Good-table-reads-back, Table-reads-as-its-record, Good-table-answers-as-its-record, Refused-call-leaves-the-table, Run-keeps-the-record}
+use Rattle.live.specs.Promises.{Table-refused-exactly-when-not-good, Good-table-reads-back, Table-reads-as-its-record, Good-table-answers-as-its-record, Refused-call-leaves-the-table, Run-keeps-the-record, Run-answers-as-the-record}
 use Rattle.live.proofs.RunLaws as runs
 use Rattle.live.proofs.RunLaws.{reading-good}
 use Rattle.live.proofs.StepLaws.{reads-bad}
@@ -57,3 +58,9 @@ refused-call-leaves-the-table call table refusal e = rw e
 
 pub run-keeps-the-record : Run-keeps-the-record
 run-keeps-the-record = runs.run-keeps-the-record
+
+pub run-answers-as-the-record : Run-answers-as-the-record
+unfolding onRecord
+run-answers-as-the-record calls before answers after r run e =
+    let reads = run-keeps-the-record calls before answers after r run e .0 in
+    (λ A ask. rw reads, λ room. rw reads, λ old. rw reads)

@@ -23,9 +23,10 @@ use Rattle.record.specs.Answers.{listsOf, writtenIn}
 use Rattle.record.specs.Changes.{mapped}
 use Rattle.record.specs.Columns.{tablesOf}
 use Rattle.record.specs.Edits.{follows}
+use Rattle.record.specs.Faults.{lastOf}
 use Rattle.record.specs.Good.{goodHeader, goodEdit, goodRecord}
 use Rattle.record.specs.Record.{Record, good, bad}
-use Rattle.record.specs.Tables.{Tables, editOf, editsFrom}
+use Rattle.record.specs.Tables.{Tables, over, editOf, editsFrom}
 use Rattle.record.specs.Writing.{accepted, faulty, unless, headerFrom, fitting, judgedEdits, recordFrom, judgedLists, judged, checkedLists, answered, writtenTo, bufferWith, bufferAfter}
 use Rattle.record.specs.declared.writing.Written.{Written}
 use Rattle.record.specs.declared.writing.Written.the-variants.{Refused as NotWritten}
@@ -46,10 +47,10 @@ use Rattle.questions.specs.Question.{Asked, found, refused, onRecord, looking, 
 use Rattle.live.specs.declared.answers.Done.the-variants.{Accepted, Refused}
 use Rattle.live.specs.declared.answers.Step.{Step}
 use Rattle.live.specs.declared.table.Table.{Table}
-use Rattle.live.specs.Answers.{doneOf, refusing}
-use Rattle.live.specs.Calls.{Call, opening, round, edit, emptyHeader, presentEdit, lastOf, openingVerdict, roundVerdict, editVerdict, onTable, verdictOf, behind, Held, added, keptOr, answerTo, tableAfter}
+use Rattle.live.specs.Answers.{doneOf, refusing, Ends}
+use Rattle.live.specs.Calls.{Call, opening, round, edit, emptyHeader, presentEdit, round11, round10, round4, edit3, edit12, edit5, testsOf, firstFailing, Held, added, keptOr, answerTo, tableAfter}
 use Rattle.live.specs.Used.{ArraysLong, tableOf, usedRecord, tableReading}
-use Rattle.live.proofs.ListLaws.{edits-from-append, behind-one, Covered, edits-from-covered}
+use Rattle.live.proofs.ListLaws.{edits-from-append, over-one, Covered, edits-from-covered}
 use Rattle.live.proofs.RunLaws.{reading-good}
 
 -- ════ Refusal 19 ════
@@ -141,11 +142,11 @@ reads-bad table h = rw h
 
 module _ (n t : ℕ) (table : Table) where
   pub opening-refused : goodHeader limits (emptyHeader n t) ≡ false → answerTo (opening n t) table ≡ faulty OutOfRange
-  unfolding answerTo verdictOf openingVerdict unless
+  unfolding answerTo testsOf firstFailing unless
   opening-refused h = rw h
 
   pub opening-accepted : goodHeader limits (emptyHeader n t) ≡ true → answerTo (opening n t) table ≡ accepted
-  unfolding answerTo verdictOf openingVerdict unless
+  unfolding answerTo testsOf firstFailing unless
   opening-accepted h = rw h
 
 -- ════ A round ════
@@ -156,20 +157,20 @@ one-round-fits false = refl
 
 module _ (sets : List Seats) (table : Table) where
   pub round-bad : goodRecord limits (usedRecord table) ≡ false → answerTo (round sets) table ≡ faulty BadTable
-  unfolding answerTo verdictOf onTable
-  round-bad h = rw (reads-bad table h)
+  unfolding answerTo testsOf firstFailing unless
+  round-bad h = rw h
 
   module _ (g : goodRecord limits (usedRecord table) ≡ true) where
-    round-on : answerTo (round sets) table ≡ roundVerdict sets (usedRecord table)
-    unfolding answerTo verdictOf onTable
-    round-on = rw (reading-good table g)
+    round-on : answerTo (round sets) table ≡ firstFailing (round11 (usedRecord table) ∷ round10 sets (usedRecord table) ∷ round4 sets (usedRecord table) ∷ [])
+    unfolding answerTo testsOf firstFailing unless
+    round-on = rw g
 
     pub round-full : 127 ≤ table .rounds → answerTo (round sets) table ≡ faulty RoundsFull
-    unfolding roundVerdict unless usedRecord
+    unfolding firstFailing unless usedRecord
     round-full h = round-on ∙ rw (le-ltb (table .rounds) 127 h)
 
     pub round-judged : table .rounds < 127 → answerTo (round sets) table ≡ judgedLists limits (table .seats) (table .bound) 1 (listsOf sets [] [] [] [])
-    unfolding roundVerdict unless usedRecord judgedLists fitting judgedEdits editsFrom
+    unfolding firstFailing unless usedRecord judgedLists fitting judgedEdits editsFrom
     round-judged h =
         let f = header-facts limits _ (record-facts limits (usedRecord table) g .header) in
         let header : goodHeader limits (headerFrom (table .seats) (table .bound) 1 (listsOf sets [] [] [] [])) ≡ true
@@ -178,7 +179,7 @@ module _ (sets : List Seats) (table : Table) where
         round-on ∙ rw (lt-ltb (table .rounds) 127 h, header, one, one-round-fits (eqb (length sets) (table .seats)))
 
 -- The table with the new sets in their place.
-pub round-table : (sets : List Seats) (table : Table) (losses : List Seats) → losses ≡ behind (table .seats * table .rounds) sets (table .losses)
+pub round-table : (sets : List Seats) (table : Table) (losses : List Seats) → losses ≡ over (table .seats * table .rounds) sets (table .losses)
     → _≡_ {A = Table} (record {
       seats = table .seats;
       bound = table .bound;
@@ -232,19 +233,22 @@ module _ (who when where′ : List ℕ) (heights : List ℤ) where
 
 module _ (seat : Seat) (cell : ℕ) (change : ℤ) (table : Table) where
   pub edit-bad : goodRecord limits (usedRecord table) ≡ false → answerTo (edit seat cell change) table ≡ faulty BadTable
-  unfolding answerTo verdictOf onTable
-  edit-bad h = rw (reads-bad table h)
+  unfolding answerTo testsOf firstFailing unless
+  edit-bad h = rw h
 
   abbrev new : Edit
   new = record { seat = seat; time = record { 0 = table .rounds }; cell = cell; change = change }
 
   module _ (g : goodRecord limits (usedRecord table) ≡ true) where
-    edit-on : answerTo (edit seat cell change) table ≡ editVerdict (presentEdit seat cell change (usedRecord table)) (usedRecord table)
-    unfolding answerTo verdictOf onTable
-    edit-on = rw (reading-good table g)
+    abbrev present : Edit
+    present = presentEdit seat cell change (usedRecord table)
+
+    edit-on : answerTo (edit seat cell change) table ≡ firstFailing (edit3 present (usedRecord table) ∷ edit12 (usedRecord table) ∷ edit5 present (usedRecord table) ∷ [])
+    unfolding answerTo testsOf firstFailing unless
+    edit-on = rw g
 
     edit-out : goodEdit limits (table .seats) (table .rounds) new ≡ false → answerTo (edit seat cell change) table ≡ faulty OutOfRange
-    unfolding editVerdict unless usedRecord
+    unfolding firstFailing unless usedRecord
     edit-out h = edit-on ∙ rw h
 
     pub edit-no-seat : table .seats ≤ seat .0 → answerTo (edit seat cell change) table ≡ faulty OutOfRange
@@ -261,18 +265,18 @@ module _ (seat : Seat) (cell : ℕ) (change : ℤ) (table : Table) where
       sound = let m = mapped-fits change fits in edit-from-facts limits _ _ new (record { seat = omega arith; time = omega arith; cell = in-range; change = m })
 
       pub edit-full : 512 ≤ table .edits → answerTo (edit seat cell change) table ≡ faulty EditsFull
-      unfolding editVerdict unless usedRecord
+      unfolding firstFailing unless usedRecord
       edit-full h = edit-on ∙ rw (sound, le-ltb (table .edits) 512 h)
 
       module _ (room : table .edits < 512) (before : Before) (last : before ≡ lastOf Nothing (usedRecord table .edits)) where
         pub edit-early : follows before new ≡ false → answerTo (edit seat cell change) table ≡ faulty BadOrder
-        unfolding editVerdict unless usedRecord
+        unfolding firstFailing unless usedRecord
         edit-early h =
             let late : follows (lastOf Nothing (usedRecord table .edits)) new ≡ false = rw last at h in
             edit-on ∙ rw (sound, lt-ltb (table .edits) 512 room, late)
 
         pub edit-accepted : follows before new ≡ true → answerTo (edit seat cell change) table ≡ accepted
-        unfolding editVerdict unless usedRecord
+        unfolding firstFailing unless usedRecord
         edit-accepted h =
             let late : follows (lastOf Nothing (usedRecord table .edits)) new ≡ true = rw last at h in
             edit-on ∙ rw (sound, lt-ltb (table .edits) 512 room, late)
@@ -293,10 +297,10 @@ pub edit-table : (seat : Seat) (cell : ℕ) (change : ℤ) (table : Table) (put 
 edit-table seat cell change table put e h =
     rw (
       e,
-      behind-one (table .edits) (seat .0) (table .editors) (omega arith),
-      behind-one (table .edits) (table .rounds) (table .times) (omega arith),
-      behind-one (table .edits) cell (table .cells) (omega arith),
-      behind-one (table .edits) change (table .changes) (omega arith),
+      over-one (table .edits) (seat .0) (table .editors) (omega arith),
+      over-one (table .edits) (table .rounds) (table .times) (omega arith),
+      over-one (table .edits) cell (table .cells) (omega arith),
+      over-one (table .edits) change (table .changes) (omega arith),
     )
 
 -- ════ Questions ════
@@ -406,11 +410,11 @@ module _ (table : Table) where
 
 module _ (call : Call) (table : Table) where
   pub refused-step : (s : Step) (refusal : Refusal) → s ≡ refusing refusal table → answerTo call table ≡ faulty refusal
-      → (s .answer ≡ doneOf (answerTo call table)) × (s .table ≡ tableAfter call table)
+      → Ends call table (s .answer) (s .table)
   unfolding doneOf tableAfter keptOr
   refused-step s refusal e v = rw (e, v) (refl, refl)
 
   pub accepted-step : (after : Table) → after ≡ added call table → answerTo call table ≡ accepted
-      → (Accepted ≡ doneOf (answerTo call table)) × (after ≡ tableAfter call table)
+      → Ends call table Accepted after
   unfolding doneOf tableAfter keptOr
   accepted-step after e v = rw v (refl, e)

@@ -1,24 +1,26 @@
 -- The live calls: what each adds to the record, what it is refused for, and what it leaves in the table.
+use mathlib.Core.Bool.{Bool}
 use mathlib.Core.List.{List, [], _∷_, _++_}
 use Prim.Native.Nat.{ℕ, _+_, _*_, _≤_}
 use lib.Dec.{eqb, ltb}
 use lib.IntN.{ℤ}
-use lib.ListN.{length, take, drop}
+use lib.ListN.{length}
 use Rattle.farm.specs.Limits.{limits}
 use Rattle.farm.specs.Sets.{Seats}
 use Rattle.farm.specs.declared.places.Seat.{Seat}
 use Rattle.farm.specs.declared.refusals.Refusal.{Refusal}
-use Rattle.farm.specs.declared.refusals.Refusal.the-variants.{OutOfRange, BadLossSet, BadOrder, BadLengths, RoundsFull, EditsFull}
+use Rattle.farm.specs.declared.refusals.Refusal.the-variants.{OutOfRange, BadLossSet, BadOrder, BadLengths, RoundsFull, EditsFull, BadTable}
 use Rattle.record.specs.declared.header.Header.{Header}
 use Rattle.record.specs.declared.edits.Edit.{Edit}
-use Rattle.record.specs.declared.edits.Before.{Before}
-use Rattle.record.specs.declared.edits.Before.the-variants.{Nothing, This}
+use Rattle.record.specs.declared.edits.Before.the-variants.{Nothing}
 use Rattle.record.specs.Edits.{follows}
-use Rattle.record.specs.Good.{goodHeader, goodSets, goodEdit}
-use Rattle.record.specs.Record.{Record, Reading, good, bad}
+use Rattle.record.specs.Faults.{lastOf}
+use Rattle.record.specs.Good.{goodHeader, goodSets, goodEdit, goodRecord}
+use Rattle.record.specs.Record.{Record}
+use Rattle.record.specs.Tables.{over}
 use Rattle.record.specs.Writing.{Verdict, accepted, faulty, unless}
 use Rattle.live.specs.declared.table.Table.{Table}
-use Rattle.live.specs.Used.{tableReading}
+use Rattle.live.specs.Used.{usedRecord}
 
 -- A call that can change the table. An edit has no time of its own: it is placed at the present one.
 pub data Call : Type 0 where
@@ -63,44 +65,50 @@ withEdit e r = record {
   edits = r .edits ++ (e ∷ []);
 }
 
--- The last edit of a list, which the next one has to come after.
-unfoldable pub lastOf : Before → List Edit → Before
-lastOf before [] = before
-lastOf before (e ∷ edits) = lastOf (This e) edits
-
 -- ════ Refusals, in document 01's order ════
 
--- An opening is refused by 3 alone, whatever the table held.
-unfoldable pub openingVerdict : (seats bound : ℕ) → Verdict
-openingVerdict n t = unless (goodHeader limits (emptyHeader n t)) OutOfRange accepted
+-- A test of a call, and the refusal that it gives where it fails. Each name has that refusal's number. The record is the one in the
+-- used part, whatever it is.
+abbrev pub Test : Type 0
+Test = Bool × Refusal
 
--- A round: 11, 10, 4.
-unfoldable pub roundVerdict : List Seats → Record → Verdict
-roundVerdict sets r =
-    unless (ltb (r .header .rounds) (limits .mostRounds)) RoundsFull
-    (unless (eqb (length sets) (r .header .seats)) BadLengths (unless (goodSets (r .header .seats) 0 sets) BadLossSet accepted))
+abbrev pub any19 : Record → Test
+any19 r = (goodRecord limits r, BadTable)
 
--- An edit: 3, 12, 5.
-unfoldable pub editVerdict : Edit → Record → Verdict
-editVerdict e r =
-    unless (goodEdit limits (r .header .seats) (r .header .rounds) e) OutOfRange
-    (unless (ltb (r .header .edits) (limits .mostEdits)) EditsFull (unless (follows (lastOf Nothing (r .edits)) e) BadOrder accepted))
+abbrev pub opening3 : (seats bound : ℕ) → Test
+opening3 n t = (goodHeader limits (emptyHeader n t), OutOfRange)
 
--- 19 comes first for every call but an opening.
-unfoldable pub onTable : Reading → (Record → Verdict) → Verdict
-onTable (good r) judge = judge r
-onTable (bad refusal) judge = faulty refusal
+abbrev pub round11 : Record → Test
+round11 r = (ltb (r .header .rounds) (limits .mostRounds), RoundsFull)
 
-unfoldable pub verdictOf : Call → Reading → Verdict
-verdictOf (opening n t) reading = openingVerdict n t
-verdictOf (round sets) reading = onTable reading (roundVerdict sets)
-verdictOf (edit seat cell change) reading = onTable reading (λ r. editVerdict (presentEdit seat cell change r) r)
+abbrev pub round10 : List Seats → Record → Test
+round10 sets r = (eqb (length sets) (r .header .seats), BadLengths)
+
+abbrev pub round4 : List Seats → Record → Test
+round4 sets r = (goodSets (r .header .seats) 0 sets, BadLossSet)
+
+abbrev pub edit3 : Edit → Record → Test
+edit3 e r = (goodEdit limits (r .header .seats) (r .header .rounds) e, OutOfRange)
+
+abbrev pub edit12 : Record → Test
+edit12 r = (ltb (r .header .edits) (limits .mostEdits), EditsFull)
+
+abbrev pub edit5 : Edit → Record → Test
+edit5 e r = (follows (lastOf Nothing (r .edits)) e, BadOrder)
+
+-- The tests of each call, in the order in which they decide. An opening takes a table in any state; every other call tests 19 first.
+unfoldable pub testsOf : Call → Record → List Test
+testsOf (opening n t) r = opening3 n t ∷ []
+testsOf (round sets) r = any19 r ∷ round11 r ∷ round10 sets r ∷ round4 sets r ∷ []
+testsOf (edit seat cell change) r =
+    any19 r ∷ edit3 (presentEdit seat cell change r) r ∷ edit12 r ∷ edit5 (presentEdit seat cell change r) r ∷ []
+
+-- The first test that fails decides.
+unfoldable pub firstFailing : List Test → Verdict
+firstFailing [] = accepted
+firstFailing ((passes, refusal) ∷ tests) = unless passes refusal (firstFailing tests)
 
 -- ════ On the table ════
-
--- New entries behind the used ones; the entries past them stay.
-abbrev pub behind : {A : Type 0} → (used : ℕ) → (new old : List A) → List A
-behind used new old = take used old ++ new ++ drop (used + length new) old
 
 -- Four lists that have so many entries at least.
 pub record Held (held : ℕ) (who when where′ : List ℕ) (heights : List ℤ) : Type 0 where
@@ -130,7 +138,7 @@ tableWithRound sets table = record {
   bound = table .bound;
   rounds = table .rounds + 1;
   edits = table .edits;
-  losses = behind (table .seats * table .rounds) sets (table .losses);
+  losses = over (table .seats * table .rounds) sets (table .losses);
   editors = table .editors;
   times = table .times;
   cells = table .cells;
@@ -145,10 +153,10 @@ tableWithEdit seat cell change table = record {
   rounds = table .rounds;
   edits = table .edits + 1;
   losses = table .losses;
-  editors = behind (table .edits) (seat .0 ∷ []) (table .editors);
-  times = behind (table .edits) (table .rounds ∷ []) (table .times);
-  cells = behind (table .edits) (cell ∷ []) (table .cells);
-  changes = behind (table .edits) (change ∷ []) (table .changes);
+  editors = over (table .edits) (seat .0 ∷ []) (table .editors);
+  times = over (table .edits) (table .rounds ∷ []) (table .times);
+  cells = over (table .edits) (cell ∷ []) (table .cells);
+  changes = over (table .edits) (change ∷ []) (table .changes);
 }
 
 abbrev pub added : Call → Table → Table
@@ -162,7 +170,7 @@ keptOr accepted kept new = new
 keptOr (faulty refusal) kept new = kept
 
 unfoldable pub answerTo : Call → Table → Verdict
-answerTo call table = verdictOf call (tableReading table)
+answerTo call table = firstFailing (testsOf call (usedRecord table))
 
 unfoldable pub tableAfter : Call → Table → Table
 tableAfter call table = keptOr (answerTo call table) table (added call table)

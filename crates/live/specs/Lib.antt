@@ -1,6 +1,6 @@
 -- Document 01, "Live": the table, the calls, and any run of them.
 pub mod Used
 pub mod Calls
-pub mod Runs
 pub mod Answers
+pub mod Runs
 pub mod Promises

@@ -10,12 +10,13 @@ use Rattle.farm.specs.declared.refusals.Refusal.the-variants.{BadTable}
 use Rattle.record.specs.Taking.{IsBytes}
 use Rattle.record.specs.Good.{goodRecord}
 use Rattle.record.specs.Record.{Record, good, bad, readingOf, bytesOf}
-use Rattle.record.specs.Writing.{faulty}
+use Rattle.record.specs.Writing.{faulty, answered, bufferWith}
 use Rattle.questions.specs.Question.{Asked, onRecord}
+use Rattle.live.specs.declared.answers.Done.{Done}
 use Rattle.live.specs.declared.table.Table.{Table}
 use Rattle.live.specs.Used.{usedRecord, tableReading}
 use Rattle.live.specs.Calls.{Call, answerTo, tableAfter}
-use Rattle.live.specs.Runs.{nothing, told, tableAfterAll, recordOfAll}
+use Rattle.live.specs.Runs.{Run, nothing, told, recordOfAll}
 
 -- ════ Refusal 19 ════
 
@@ -50,9 +51,19 @@ abbrev pub Refused-call-leaves-the-table : Type 0
 Refused-call-leaves-the-table =
     (call : Call) (table : Table) (refusal : Refusal) → answerTo call table ≡ faulty refusal → tableAfter call table ≡ table
 
--- The law of any run: whatever calls are made, on a table in any state, after an accepted opening the table reads as the record of
--- the calls accepted since the last one.
+-- The law of any run: whatever calls are made, on a table in any state, and however they end as their contracts say, after an
+-- accepted opening the table reads as the record of the calls accepted since the last one.
 abbrev pub Run-keeps-the-record : Type 0
 Run-keeps-the-record =
-    (calls : List Call) (table : Table) (r : Record) → recordOfAll calls table nothing ≡ told r
-    → (tableReading (tableAfterAll calls table) ≡ good r) × (usedRecord (tableAfterAll calls table) ≡ r)
+    (calls : List Call) (before : Table) (answers : List Done) (after : Table) (r : Record)
+    → Run calls before answers after → recordOfAll calls answers nothing ≡ told r
+    → (tableReading after ≡ good r) × (usedRecord after ≡ r)
+
+-- So every question asked of the table after such a run, and the writing of it, is answered as of that record.
+abbrev pub Run-answers-as-the-record : Type 1
+Run-answers-as-the-record =
+    (calls : List Call) (before : Table) (answers : List Done) (after : Table) (r : Record)
+    → Run calls before answers after → recordOfAll calls answers nothing ≡ told r
+    → ((A : Type 0) (ask : Record → Asked A) → onRecord (tableReading after) ask ≡ ask r)
+    × ((room : ℕ) → answered limits (tableReading after) room ≡ answered limits (good r) room)
+    × ((old : List ℕ) → bufferWith limits (tableReading after) old ≡ bufferWith limits (good r) old)

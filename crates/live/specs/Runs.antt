@@ -1,16 +1,17 @@
--- Any run of calls, from a table in any state: after an accepted opening the used part is the record of the calls that were
--- accepted since the last accepted opening.
+-- Any run of calls, from a table in any state, and the record of the calls that were accepted.
 use mathlib.Core.List.{List, [], _∷_}
-use Prim.Native.Nat.{ℕ}
 use Rattle.record.specs.Record.{Record}
-use Rattle.record.specs.Writing.{Verdict, accepted, faulty}
+use Rattle.live.specs.declared.answers.Done.{Done}
+use Rattle.live.specs.declared.answers.Done.the-variants.{Accepted, Refused}
 use Rattle.live.specs.declared.table.Table.{Table}
-use Rattle.live.specs.Calls.{Call, opening, round, edit, openedRecord, withRound, withEdit, presentEdit, answerTo, tableAfter}
+use Rattle.live.specs.Answers.{Ends}
+use Rattle.live.specs.Calls.{Call, opening, round, edit, openedRecord, withRound, withEdit, presentEdit}
 
--- The table after the calls, one after the other; each call gets the table as the one before left it.
-unfoldable pub tableAfterAll : List Call → Table → Table
-tableAfterAll [] table = table
-tableAfterAll (call ∷ calls) table = tableAfterAll calls (tableAfter call table)
+-- Each call gets the table as the one before left it, and ends as its contract says.
+pub data Run : List Call → (before : Table) → List Done → (after : Table) → Type 0 where
+  stop : (table : Table) → Run [] table [] table
+  step : (call : Call) (calls : List Call) (before : Table) (answer : Done) (between : Table) (answers : List Done) (after : Table)
+      → Ends call before answer between → Run calls between answers after → Run (call ∷ calls) before (answer ∷ answers) after
 
 -- What is known of the record from the answers alone: nothing before the first accepted opening.
 pub data Told : Type 0 where
@@ -26,12 +27,12 @@ recorded (edit seat cell change) nothing = nothing
 recorded (edit seat cell change) (told r) = told (withEdit (presentEdit seat cell change r) r)
 
 -- A refused call adds nothing.
-unfoldable pub recordedIf : Verdict → Call → Told → Told
-recordedIf accepted call before = recorded call before
-recordedIf (faulty refusal) call before = before
+unfoldable pub recordedIf : Done → Call → Told → Told
+recordedIf Accepted call before = recorded call before
+recordedIf (Refused refusal) call before = before
 
--- The record of the calls accepted since the last accepted opening.
-unfoldable pub recordOfAll : List Call → Table → Told → Told
-recordOfAll [] table before = before
-recordOfAll (call ∷ calls) table before =
-    recordOfAll calls (tableAfter call table) (recordedIf (answerTo call table) call before)
+-- The record of the calls accepted since the last accepted opening, from the calls and their answers.
+unfoldable pub recordOfAll : List Call → List Done → Told → Told
+recordOfAll [] answers before = before
+recordOfAll (call ∷ calls) [] before = before
+recordOfAll (call ∷ calls) (answer ∷ answers) before = recordOfAll calls answers (recordedIf answer call before)

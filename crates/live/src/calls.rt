@@ -6,13 +6,12 @@ use crate::steps::with_edit;
 use crate::steps::with_round;
 use crate::table::Table;
 use farm::places::Seat;
-ghost use mathlib.Core.Path.{_≡_};
-ghost use Rattle.live.specs.Calls.{opening, round, edit, answerTo, tableAfter};
-ghost use Rattle.live.specs.Answers.{doneOf};
+ghost use Rattle.live.specs.Calls.{opening, round, edit};
+ghost use Rattle.live.specs.Answers.{Ends};
 
 // Opens a table in any state for a new record: 3.
 pub fn open(table: &mut Table, seats: u8, bound: u8) -> Done
-    ensures { λ r. ⌜ (r ≡ doneOf (answerTo (opening seats bound) (now (table .entry)))) × (now (table .exit) ≡ tableAfter (opening seats bound) (now (table .entry))) ⌝ }
+    ensures { λ r. ⌜ Ends (opening seats bound) (now (table .entry)) r (now (table .exit)) ⌝ }
 {
     let step = opened(*table, seats, bound);
     *table = step.table;
@@ -21,7 +20,7 @@ pub fn open(table: &mut Table, seats: u8, bound: u8) -> Done
 
 // Adds a round, a loss set for each sender: 19, 11, 10, 4.
 pub fn add_round(table: &mut Table, sets: &[u16]) -> Done
-    ensures { λ r. ⌜ (r ≡ doneOf (answerTo (round (now (sets .entry))) (now (table .entry)))) × (now (table .exit) ≡ tableAfter (round (now (sets .entry))) (now (table .entry))) ⌝ }
+    ensures { λ r. ⌜ Ends (round (now (sets .entry))) (now (table .entry)) r (now (table .exit)) ⌝ }
 {
     let step = with_round(*table, sets);
     *table = step.table;
@@ -30,7 +29,7 @@ pub fn add_round(table: &mut Table, sets: &[u16]) -> Done
 
 // Adds an edit at the present time: 19, 3, 12, 5.
 pub fn add_edit(table: &mut Table, seat: Seat, cell: u32, change: i16) -> Done
-    ensures { λ r. ⌜ (r ≡ doneOf (answerTo (edit seat cell change) (now (table .entry)))) × (now (table .exit) ≡ tableAfter (edit seat cell change) (now (table .entry))) ⌝ }
+    ensures { λ r. ⌜ Ends (edit seat cell change) (now (table .entry)) r (now (table .exit)) ⌝ }
 {
     let step = with_edit(*table, seat, cell, change);
     *table = step.table;

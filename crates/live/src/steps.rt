@@ -23,15 +23,16 @@ ghost use lib.ListN.{length, take};
 ghost use mathlib.Core.List.{[]};
 ghost use Rattle.farm.specs.Limits.{limits};
 ghost use Rattle.record.specs.Answers.{listsOf, judgedIn};
-ghost use Rattle.record.specs.Tables.{editsFrom};
+ghost use Rattle.record.specs.Faults.{lastOf};
+ghost use Rattle.record.specs.Tables.{over, editsFrom};
 ghost use Rattle.record.specs.Writing.{judgedLists};
 ghost use Rattle.record.specs.declared.edits.Before.the-variants.{Nothing};
-ghost use Rattle.live.specs.Calls.{opening, round, edit, lastOf, behind, Held, answerTo, tableAfter};
-ghost use Rattle.live.specs.Answers.{doneOf, refusing};
+ghost use Rattle.live.specs.Calls.{opening, round, edit, Held};
+ghost use Rattle.live.specs.Answers.{Ends, refusing};
 
 // An opening: 3, or a record with no rounds and no edits. Nothing else in the table is touched.
 pub fn opened(table: Table, seats: u8, bound: u8) -> Step
-    ensures { λ r. ⌜ (r .answer ≡ doneOf (answerTo (opening seats bound) table)) × (r .table ≡ tableAfter (opening seats bound) table) ⌝ }
+    ensures { λ r. ⌜ Ends (opening seats bound) table (r .answer) (r .table) ⌝ }
 {
     if (seats as u32) < FEWEST_SEATS {
         return refused(table, Refusal::OutOfRange);
@@ -65,7 +66,7 @@ fn refused(table: Table, refusal: Refusal) -> Step
 // Entries from a place on; those before and after them stay.
 fn put_sets(losses: &mut [u16], at: usize, sets: &[u16])
     requires { ⌜ at + length (now sets) ≤ length (now losses) ⌝ }
-    ensures { λ _. ⌜ now (losses .exit) ≡ behind at (now (sets .entry)) (now (losses .entry)) ⌝ }
+    ensures { λ _. ⌜ now (losses .exit) ≡ over at (now (sets .entry)) (now (losses .entry)) ⌝ }
 {
     let mut i: usize = 0;
     while i < sets.len() {
@@ -96,7 +97,7 @@ fn judge_round(seats: u8, bound: u8, sets: &[u16]) -> Judged
 
 // A round: 19, 11, 10, 4. Its sets are judged as those of a record of one round, and go behind the ones held.
 pub fn with_round(table: Table, sets: &[u16]) -> Step
-    ensures { λ r. ⌜ (r .answer ≡ doneOf (answerTo (round (now (sets .entry))) table)) × (r .table ≡ tableAfter (round (now (sets .entry))) table) ⌝ }
+    ensures { λ r. ⌜ Ends (round (now (sets .entry))) table (r .answer) (r .table) ⌝ }
 {
     let seats = table.seats;
     let bound = table.bound;
@@ -158,7 +159,7 @@ fn last_held<'a>(
 
 // An edit: 19, 3, 12, 5. It is placed at the present time, and goes behind the ones held.
 pub fn with_edit(table: Table, seat: Seat, cell: u32, change: i16) -> Step
-    ensures { λ r. ⌜ (r .answer ≡ doneOf (answerTo (edit seat cell change) table)) × (r .table ≡ tableAfter (edit seat cell change) table) ⌝ }
+    ensures { λ r. ⌜ Ends (edit seat cell change) table (r .answer) (r .table) ⌝ }
 {
     let seats = table.seats;
     let bound = table.bound;

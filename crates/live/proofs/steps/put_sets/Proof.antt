@@ -1,23 +1,24 @@
--- `live::steps::put_sets` meets its contract. The loop's invariant: the first i sets stand behind the used ones, and the others are the old ones.
+-- `live::steps::put_sets` meets its contract. The loop's invariant: the sets from the i-th on, put over the present list, make it what it is to be.
 -- Assumes nothing.
-use mathlib.Core.Path.{_≡_, refl, sym}
-use Prim.Native.Nat.{_-_, _≤_}
+use mathlib.Core.Path.{_≡_, refl, sym, _∙_, ap}
+use Prim.Native.Nat.{ℕ, _+_, _-_, _≤_}
+use native.Mathlib.Nat.{add-zero}
 use native.Mathlib.Omega.{arith}
-use lib.ListN.{length, take, length-set}
-use Rattle.live.specs.Calls.{behind}
-use Rattle.live.proofs.ListLaws.{behind-none, behind-turn, behind-whole}
+use lib.ListN.{length, drop, length-set}
+use Rattle.record.specs.Tables.{over}
+use Rattle.live.proofs.ListLaws.{over-turn, over-done}
 use Rattle.live.proofs.steps.put_sets.Statement.{statement}
 use Rattle.live.proofs.steps.put_sets.Tie as tie
 
 abbrev Inv-loop : tie.InvT-loop
 Inv-loop losses₀ at sets i₀ losses i =
-    (i ≤ length sets) × (length losses ≡ length losses₀) × (losses ≡ behind at (take i sets) losses₀)
+    (i ≤ length sets) × (length losses ≡ length losses₀) × (over (at + i) (drop i sets) losses ≡ over at sets losses₀)
 
 abbrev μ-loop : tie.MeasureT-loop
 μ-loop losses₀ at sets i₀ losses i = length sets - i
 
 loop-holds : tie.Need-loop-holds Inv-loop μ-loop
-loop-holds c = (omega arith, refl, sym (behind-none (c .args .at) (c .args .sets .now) (c .args .losses .now)))
+loop-holds c = (omega arith, refl, ap (λ (k : ℕ). over k (c .args .sets .now) (c .args .losses .now)) (add-zero (c .args .at)))
 
 mul-losses : tie.Need-mul-losses Inv-loop μ-loop
 mul-losses c = omega arith
@@ -45,7 +46,7 @@ loop-again c =
     let a = c .before .before .before .args in
     let pre = c .before .before .before .pre in
     let l = c .before .before .loop in
-    (omega arith, simp length-set (c .before .before .loop .inv .1), behind-turn _ (l .i) (a .sets .now) (a .losses .now) (l .losses) _ 0 (omega arith) (omega arith) (l .inv .2) refl)
+    (omega arith, simp length-set (c .before .before .loop .inv .1), over-turn (a .at) (l .i) (a .sets .now) (l .losses) 0 (omega arith) (omega arith) ∙ l .inv .2)
 
 same-length : tie.Need-same-length Inv-loop μ-loop
 same-length c = c .before .loop .inv .1
@@ -54,7 +55,7 @@ returns : tie.Need-returns Inv-loop μ-loop
 returns c =
     let a = c .before .before .args in
     let l = c .before .loop in
-    behind-whole (a .at) (l .i) (a .sets .now) (a .losses .now) (l .losses) (omega arith) (l .inv .2)
+    sym (over-done (a .at + l .i) (l .i) (a .sets .now) (l .losses) (omega arith)) ∙ l .inv .2
 
 pub put-sets-spec : {M : Type 1} → statement M
 put-sets-spec =
