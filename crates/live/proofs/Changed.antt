@@ -19,7 +19,7 @@ use prog.Memory.{fieldAt}
 use prog.Wp.{Heap, Tables, WpFn}
 use ghost.Atoms.{Atoms, sem}
 use contract.Lifetimes.{Lfts, Shares, toks}
-use types.Kit.{Given, ‵, raw, some, given, later, _⊛_, _$_, _∵_, !, qed, by, move, keep, drop, use1, split, join, split3, pick, fsplit, fsplit3, fjoin, frame, await, updating, now as at-once, show, check, recast, done}
+use types.Kit.{Given, ‵, raw, some, later, _⊛_, _$_, _∵_, !, qed, by, move, keep, drop, use1, split, join, split3, pick, fsplit, fsplit3, fjoin, frame, await, updating, now as at-once, show, check, recast, done}
 use types.SemTy.{Body}
 use sound.WpLaws.{fmOf}
 use denote.RattleType.{RattleType, Valss, flat, owns}

@@ -7,7 +7,7 @@ pub mod Thin
 pub mod Handed
 pub mod Enters
 pub mod Changed
-pub mod Asked
+pub mod Slices
 pub mod Picks
 pub mod Picked
 pub mod Live

@@ -35,12 +35,11 @@ use borrow.Table.Copies.{halves, cStruct}
 use Rattle.live.specs.declared.table.Table.{Table}
 use Rattle.live.proofs.table.Table as Table
 use Rattle.live.proofs.table.Table.Laws as Table′
-use Rattle.live.proofs.Asked.{Asker}
 use Rattle.live.proofs.Changed.{lies}
 use Rattle.live.proofs.Handed.{Handed}
 use Rattle.live.proofs.Live.{Answer}
 use Rattle.live.proofs.Picked as picked
-use Rattle.live.proofs.Picked.{Field, lent, taken, Fields, picks-of}
+use Rattle.live.proofs.Picked.{Asker, Field, lent, taken, Fields, picks-of}
 use Rattle.live.proofs.Picks.{picking, picking-into}
 
 module _ {M : Type 1} (𝓤 : URA M) (H : Heap 𝓤) (A : Atoms 𝓤) (W : Given 𝓤 H A) where

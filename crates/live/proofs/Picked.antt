@@ -18,7 +18,7 @@ use prog.Memory.{fieldAt}
 use prog.Wp.{Heap, Tables, WpFn}
 use ghost.Atoms.{Atoms, sem}
 use contract.Lifetimes.{Lfts, Shares, toks}
-use types.Kit.{Given, ‵, raw, some, given, later, _⊛_, _$_, _∵_, !, qed, by, move, keep, drop, use1, use2, use3, split, join, pick, fsplit, fsplit3, fjoin, fjoin3, feqI, frame, await, updating, now as at-once, show, check, done}
+use types.Kit.{Given, ‵, raw, some, later, _⊛_, _$_, _∵_, !, qed, by, move, keep, drop, use1, use2, use3, split, join, pick, fsplit, fsplit3, fjoin, fjoin3, feqI, frame, await, updating, now as at-once, show, check, done}
 use types.Tokens.{name-new, shr-bor-dup}
 use sound.WpLaws.{fmOf}
 use denote.RattleType.{RattleType, Denots, Valss, flat, owns, mirs}
@@ -39,11 +39,15 @@ use denote.Triple.Entry.{Args}
 use denote.Triple.Spec.{Meets, Back, tripleOf}
 use denote.Triple.Statement.{Triple}
 use borrow.Struct.Share.{Parts}
-use Rattle.live.proofs.Asked.{Asker, Lastly, lastly, Sliced, sliced}
 use Rattle.live.proofs.Changed.{lies}
 use Rattle.live.proofs.Enters.{enters}
 use Rattle.live.proofs.Picks.{Pick, lend, read, values-of, value-of, AllGood, picking, picks, picking-into, picks-into}
+use Rattle.live.proofs.Slices.{Lastly, lastly, Sliced, sliced}
 use Rattle.live.proofs.Thin.{Of}
+
+-- the shape of the contract of a function on a `&` to the table
+abbrev pub Asker : (TT : Declared) (m : ℕ) (ps : List (Slot (suc m))) → Kepts ps → RattleType → Ended
+Asker TT m ps ks X = record { signature = record { lifetimes = suc m; outlives = []; params = shrRefTo (0 ∷ []) tt (plain (λ _. row TT)) ∷ ps; result = plain (λ _. X) }; kept = (yes, ks) }
 
 -- the fields' types, and their machine values
 abbrev pub tys : Declared → Tys
