@@ -6,6 +6,7 @@ use mathlib.Core.List.{List, [], _∷_, _++_}
 use Prim.Native.Nat.{ℕ, zero, suc, _+_, _-_, _*_, _≤_, _<_}
 use native.Mathlib.Nat.{mul-zero, mul-suc, zero-add, not-suc-le-zero}
 use native.Mathlib.Omega.{arith}
+use lib.Dec.{eqb, ltb}
 use lib.IntN.{ℤ}
 use lib.ListN.{length, length-append}
 use borrow.Author.Tests.{eq-eqb, ne-eqb, ltb-true, eqb-true}
@@ -105,6 +106,8 @@ edits-append L n R before (x ∷ edits) e h g f =
 
 -- ════ The three calls ════
 
+-- Only which tests pass is used here, and not their order.
+
 pub opened-good : (n t : ℕ) (r : Record) → AllPass (testsOf (opening n t) r) → goodRecord limits (openedRecord n t) ≡ true
 unfolding testsOf goodSets goodEdits
 opened-good n t r (header, none) =
@@ -118,7 +121,11 @@ opened-good n t r (header, none) =
 
 pub round-good : (sets : List Seats) (r : Record) → AllPass (testsOf (round sets) r) → goodRecord limits (withRound sets r) ≡ true
 unfolding testsOf
-round-good sets r (whole, (room, (fits, (sound, none)))) =
+round-good sets r (a, (b, (c, (d, none)))) =
+    let whole : goodRecord limits r ≡ true = cc in
+    let room : ltb (r .header .rounds) (limits .mostRounds) ≡ true = cc in
+    let fits : eqb (length sets) (r .header .seats) ≡ true = cc in
+    let sound : goodSets (r .header .seats) 0 sets ≡ true = cc in
     let f = record-facts limits r whole in
     let h = header-facts limits (r .header) (f .header) in
     let less : r .header .rounds < limits .mostRounds = ltb-true _ _ room in
@@ -136,11 +143,15 @@ round-good sets r (whole, (room, (fits, (sound, none)))) =
 pub edit-good : (seat : Seat) (cell : ℕ) (change : ℤ) (r : Record) → AllPass (testsOf (edit seat cell change) r)
     → goodRecord limits (withEdit (presentEdit seat cell change r) r) ≡ true
 unfolding testsOf
-edit-good seat cell change r (whole, (fits, (room, (rising, none)))) =
+edit-good seat cell change r (a, (b, (c, (d, none)))) =
+    let e = presentEdit seat cell change r in
+    let whole : goodRecord limits r ≡ true = cc in
+    let fits : goodEdit limits (r .header .seats) (r .header .rounds) e ≡ true = cc in
+    let room : ltb (r .header .edits) (limits .mostEdits) ≡ true = cc in
+    let rising : follows (lastOf Nothing (r .edits)) e ≡ true = cc in
     let f = record-facts limits r whole in
     let h = header-facts limits (r .header) (f .header) in
     let less : r .header .edits < limits .mostEdits = ltb-true _ _ room in
-    let e = presentEdit seat cell change r in
     record-from-facts limits (withEdit e r) (record {
       header = header-from-facts limits (withEdit e r .header) (record { fewest = h .fewest; most = h .most; bound = h .bound; rounds = h .rounds; edits = omega arith });
       lossCount = f .lossCount;

@@ -2,10 +2,11 @@
 -- Assumes nothing.
 use mathlib.Core.Path.{_≡_, refl, sym, _∙_, ap}
 use mathlib.Core.Bool.{true}
-use mathlib.Core.List.{List, [], _∷_}
+use mathlib.Core.List.{List, [], _∷_, _++_}
 use Prim.Native.Nat.{ℕ, _+_, _*_, _≤_}
 use native.Mathlib.Nat.{mul-zero}
 use native.Mathlib.Omega.{arith}
+use lib.Dec.{eqb}
 use lib.IntN.{ℤ}
 use lib.ListN.{length, take, length-take}
 use borrow.Author.Tests.{eqb-true}
@@ -37,10 +38,14 @@ used-opened n t table = rw (mul-zero n)
 pub used-with-round : (sets : List Seats) (table : Table) → AllPass (testsOf (round sets) (usedRecord table))
     → usedRecord (tableWithRound sets table) ≡ withRound sets (usedRecord table)
 unfolding usedRecord testsOf
-used-with-round sets table (whole, (room, (fits, tests))) =
+used-with-round sets table (a, (b, (c, (d, none)))) =
+    let whole : goodRecord limits (usedRecord table) ≡ true = cc in
+    let fits : eqb (length sets) (table .seats) ≡ true = cc in
     let f = record-facts limits (usedRecord table) whole in
     let long : length sets ≡ table .seats = eqb-true _ _ fits in
-    rw (take-behind (table .seats * table .rounds) (table .seats * (table .rounds + 1)) sets (table .losses) (f .lossCount) (omega arith))
+    let losses : take (table .seats * (table .rounds + 1)) (tableWithRound sets table .losses) ≡ take (table .seats * table .rounds) (table .losses) ++ sets
+    = take-behind (table .seats * table .rounds) (table .seats * (table .rounds + 1)) sets (table .losses) (f .lossCount) (omega arith) in
+    rw losses
 
 take-full : {A : Type 0} (n : ℕ) (l : List A) → n ≤ length (take n l) → length (take n l) ≡ n
 take-full n l h = let e = length-take n l in omega arith
@@ -49,7 +54,7 @@ pub used-with-edit : (seat : Seat) (cell : ℕ) (change : ℤ) (table : Table) �
     → usedRecord (tableWithEdit seat cell change table)
     ≡ withEdit (presentEdit seat cell change (usedRecord table)) (usedRecord table)
 unfolding usedRecord testsOf
-used-with-edit seat cell change table (whole, tests) =
+used-with-edit seat cell change table (a, (b, (c, (d, none)))) =
     rw (
       take-behind E (E + 1) (seat .0 ∷ []) (table .editors) seats refl,
       take-behind E (E + 1) (table .rounds ∷ []) (table .times) times refl,
@@ -61,6 +66,9 @@ used-with-edit seat cell change table (whole, tests) =
   where
     E : ℕ
     E = table .edits
+
+    whole : goodRecord limits (usedRecord table) ≡ true
+    whole = cc
 
     covered : Covered E (take E (table .editors)) (take E (table .times)) (take E (table .cells)) (take E (table .changes))
     covered = rw (record-facts limits (usedRecord table) whole .editCount) at (edits-from-covered (take E (table .editors)) (take E (table .times)) (take E (table .cells)) (take E (table .changes)))

@@ -20,7 +20,7 @@ use Rattle.record.specs.Record.{Record}
 use Rattle.record.specs.Tables.{over}
 use Rattle.record.specs.Writing.{Verdict, accepted, faulty, unless}
 use Rattle.live.specs.declared.table.Table.{Table}
-use Rattle.live.specs.Used.{usedRecord}
+use Rattle.live.specs.Used.{usedRecord, tableOf}
 
 -- A call that can change the table. An edit has no time of its own: it is placed at the present one.
 pub data Call : Type 0 where
@@ -119,17 +119,7 @@ pub record Held (held : ℕ) (who when where′ : List ℕ) (heights : List ℤ)
 
 -- An accepted opening sets the four numbers and touches nothing else.
 abbrev pub openedTable : (seats bound : ℕ) → Table → Table
-openedTable n t table = record {
-  seats = n;
-  bound = t;
-  rounds = 0;
-  edits = 0;
-  losses = table .losses;
-  editors = table .editors;
-  times = table .times;
-  cells = table .cells;
-  changes = table .changes;
-}
+openedTable n t table = tableOf (table .losses) (table .editors) (table .times) (table .cells) (table .changes) n t 0 0
 
 -- An accepted round goes behind the loss sets of the rounds done.
 abbrev pub tableWithRound : List Seats → Table → Table
