@@ -7,14 +7,15 @@ use native.Mathlib.Omega.{arith}
 use Rattle.farm.specs.Limits.{limits}
 use Rattle.farm.specs.declared.refusals.Refusal.the-variants.{BadTable}
 use Rattle.record.specs.Good.{goodRecord}
-use Rattle.record.specs.Record.{Record, good, bad}
-use Rattle.record.proofs.Promises.{document-numbers-fit, reads-exactly-good-records}
+use Rattle.record.specs.Record.{Record, good, bad, bytesOf}
+use Rattle.record.proofs.Promises.{document-numbers-fit}
 use Rattle.record.proofs.ReadBack.{reading-back}
+use Rattle.record.proofs.TakenGood.{reading-taken}
 use Rattle.live.specs.declared.table.Table.{Table}
 use Rattle.questions.specs.Question.{onRecord}
 use Rattle.live.specs.Calls.{tableAfter, keptOr}
 use Rattle.live.specs.Used.{usedRecord, tableReading}
-use Rattle.live.specs.Promises.{Table-refused-exactly-when-not-good, Good-table-reads-back, Table-reads-as-its-record, Good-table-answers-as-its-record, Refused-call-leaves-the-table, Run-keeps-the-record, Run-answers-as-the-record}
+use Rattle.live.specs.Promises.{Table-refused-exactly-when-not-good, Table-passes-exactly-when-it-reads-back, Good-table-answers-as-its-record, Refused-call-leaves-the-table, Run-keeps-the-record, Run-answers-as-the-record}
 use Rattle.live.proofs.RunLaws as runs
 use Rattle.live.proofs.RunLaws.{reading-good}
 use Rattle.live.proofs.StepLaws.{reads-bad}
@@ -37,15 +38,11 @@ pub table-refused-exactly-when-not-good : Table-refused-exactly-when-not-good
 unfolding tableReading
 table-refused-exactly-when-not-good table = (failed (goodRecord limits (usedRecord table)) (usedRecord table), reads-bad table)
 
-pub good-table-reads-back : Good-table-reads-back
-good-table-reads-back table e = reading-back limits document-numbers-fit (usedRecord table) (passes table (usedRecord table) e .0)
-
-pub table-reads-as-its-record : Table-reads-as-its-record
-table-reads-as-its-record table bytes h =
-    let both = reads-exactly-good-records limits document-numbers-fit bytes h (usedRecord table) in (
-      λ e. let g = both .0 e in (reading-good table (g .0), g .1),
-      λ p. both .1 (passes table (usedRecord table) (p .0) .0, p .1),
-    )
+pub table-passes-exactly-when-it-reads-back : Table-passes-exactly-when-it-reads-back
+table-passes-exactly-when-it-reads-back table = (
+  λ e. reading-back limits document-numbers-fit (usedRecord table) (passes table (usedRecord table) e .0),
+  λ e. reading-good table (reading-taken limits (bytesOf limits (usedRecord table)) (usedRecord table) e),
+)
 
 pub good-table-answers-as-its-record : Good-table-answers-as-its-record
 good-table-answers-as-its-record table r e = (passes table r e .1, λ A ask. rw e)

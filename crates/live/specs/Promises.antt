@@ -7,7 +7,6 @@ use Prim.Native.Nat.{ℕ}
 use Rattle.farm.specs.Limits.{limits}
 use Rattle.farm.specs.declared.refusals.Refusal.{Refusal}
 use Rattle.farm.specs.declared.refusals.Refusal.the-variants.{BadTable}
-use Rattle.record.specs.Taking.{IsBytes}
 use Rattle.record.specs.Good.{goodRecord}
 use Rattle.record.specs.Record.{Record, good, bad, readingOf, bytesOf}
 use Rattle.record.specs.Writing.{faulty, answered, bufferWith}
@@ -25,18 +24,12 @@ abbrev pub Table-refused-exactly-when-not-good : Type 0
 Table-refused-exactly-when-not-good =
     (table : Table) → (tableReading table ≡ bad BadTable) ↔ (goodRecord limits (usedRecord table) ≡ false)
 
--- The test and "reads as a good record" are the same thing: a table that passes reads back from its own bytes, and bytes that
--- read as its used part are its bytes and let it pass.
-abbrev pub Good-table-reads-back : Type 0
-Good-table-reads-back =
-    (table : Table) → tableReading table ≡ good (usedRecord table)
-    → readingOf limits (bytesOf limits (usedRecord table)) ≡ good (usedRecord table)
-
-abbrev pub Table-reads-as-its-record : Type 0
-Table-reads-as-its-record =
-    (table : Table) (bytes : List ℕ) → IsBytes bytes
-    → (readingOf limits bytes ≡ good (usedRecord table))
-    ↔ ((tableReading table ≡ good (usedRecord table)) × (bytesOf limits (usedRecord table) ≡ bytes))
+-- To pass the test of 19, and to read as a good record from its own bytes, are the same thing, for a table in any state.
+abbrev pub Table-passes-exactly-when-it-reads-back : Type 0
+Table-passes-exactly-when-it-reads-back =
+    (table : Table)
+    → (tableReading table ≡ good (usedRecord table))
+    ↔ (readingOf limits (bytesOf limits (usedRecord table)) ≡ good (usedRecord table))
 
 -- A table that passes, however it came to be, reads as its used part and nothing else, and so answers every question as that record.
 abbrev pub Good-table-answers-as-its-record : Type 1

@@ -15,6 +15,7 @@ pub mod ColumnLaws
 pub mod WritingLaws
 pub mod FlatLosses
 pub mod ReadBack
+pub mod TakenGood
 pub mod WrittenAgain
 pub mod LengthLaws
 pub mod RefusalLaws

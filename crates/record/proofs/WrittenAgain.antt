@@ -1,6 +1,6 @@
--- Read then write: whatever is taken from bytes is good, and its own bytes are those that it was taken from.
+-- Read then write: the own bytes of whatever is taken from bytes are those that it was taken from.
 -- Assumes nothing.
-use mathlib.Core.Path.{_≡_, refl, sym, _∙_, ap, ap₂}
+use mathlib.Core.Path.{_≡_, refl, sym, _∙_}
 use mathlib.Core.Bool.{true}
 use mathlib.Core.List.{List, [], _∷_, _++_, append-assoc, append-nil}
 use Prim.Native.Nat.{ℕ, zero, suc, _+_, _-_, _*_, _^_, _<_, _≤_}
@@ -9,43 +9,31 @@ use lib.ListN.{length}
 use lib.Seq.{getD-append-add}
 use Rattle.farm.specs.Limits.{Limits}
 use Rattle.farm.specs.Sets.{Seats}
-use Rattle.farm.specs.declared.refusals.Refusal.the-variants.{BadLossSet, BadOrder}
-use Rattle.farm.proofs.Cases.{and-intro}
+use Rattle.farm.specs.declared.refusals.Refusal.the-variants.{BadOrder}
 use Rattle.record.specs.declared.header.Header.{Header}
 use Rattle.record.specs.declared.edits.Edit.{Edit}
 use Rattle.record.specs.declared.edits.Before.{Before}
 use Rattle.record.specs.declared.edits.Before.the-variants.{Nothing, This}
-use Rattle.record.specs.Taking.{IsBytes, Taken, value, refused, _>>=_, when}
+use Rattle.record.specs.Taking.{IsBytes, value, when}
 use Rattle.record.specs.Numbers.{numberBytes, takeNumber, takeWithin}
-use Rattle.record.specs.Changes.{unmapped}
 use Rattle.record.specs.Header.{takeHeader, headerBytes}
 use Rattle.record.specs.Losses.{goodSet, takeSet, takeRounds, lossBytes}
 use Rattle.record.specs.Edits.{follows, takeEdit, takeEdits, editBytes, editsBytes}
-use Rattle.record.specs.Record.{Record, good, takeRecord, whole, readingOf, bytesOf}
+use Rattle.record.specs.Record.{Record, good, takeRecord, readingOf, bytesOf}
 use Rattle.record.specs.Widths.{Wide}
 use Rattle.record.specs.Good.{goodHeader, senderAfter, goodSets, goodEdit, goodEdits, goodRecord}
-use Rattle.record.specs.Tables.{editOf}
-use Rattle.record.proofs.TakingLaws.{value-not-refused, bind-value, when-value}
+use Rattle.record.proofs.TakingLaws.{bind-value, when-value}
 use Rattle.record.proofs.NumberLaws.{took-number, within-value}
 use Rattle.record.proofs.HeaderLaws.{header-took}
 use Rattle.record.proofs.ChangeLaws.{mapped-unmapped}
-use Rattle.record.proofs.FlatLosses.{joined, takeSets, rounds-are-flat}
-use Rattle.record.proofs.GoodLaws.{and3-intro, header-from-facts, edit-from-facts, record-from-facts}
+use Rattle.record.proofs.FlatLosses.{takeSets, rounds-are-flat}
+use Rattle.record.proofs.TakenGood.{joined-value, header-taken, set-taken, sets-taken, edit-took, edit-taken, edits-taken, record-taken, whole-good}
 
 -- What is left of bytes is bytes.
 pub bytes-after : (front rest bytes : List ℕ) → front ++ rest ≡ bytes → IsBytes bytes → IsBytes rest
 bytes-after front rest bytes e h i =
     let below = h (length front + i) in
     rw (getD-append-add front rest i 0) at (rw (← e) at below)
-
-pub joined-value : {A : Type 0} (front l : List A) (t : Taken (List A)) (end : List ℕ) → joined front t ≡ value l end
-    → (more : List A) × (t ≡ value more end) × (front ++ more ≡ l)
-unfolding joined
-joined-value front l (value more rest) end e =
-    let same : front ++ more ≡ l = cc in
-    let ends : rest ≡ end = cc in
-    (more, ap (λ (b : List ℕ). value more b) ends, same)
-joined-value front l (refused r) end e = absurd (value-not-refused l end r (sym e))
 
 -- A part that was taken: it is good, and its bytes stood in front of the rest.
 pub record Again (good : Type 0) (own rest bytes : List ℕ) : Type 0 where
@@ -83,24 +71,16 @@ module _ (L : Limits) where
       let t = within-again _ _ _ _ _ (n .after) (w .t) in
       let R = within-again _ _ _ _ _ (t .after) (w .R) in
       let E = within-again _ _ _ _ _ (R .after) (w .E) in
-      again _ rest bytes
-      (header-from-facts L x
-      (record { fewest = n .sound .0; most = n .sound .1; bound = t .sound .1; rounds = R .sound .1; edits = E .sound .1 }))
+      again _ rest bytes (header-taken L bytes x rest e)
       (simp append-assoc (rw (E .written, R .written, t .written, n .written))) h
 
   -- ════ Losses ════
 
   pub set-again : (n sender : ℕ) (bytes : List ℕ) (set : Seats) (rest : List ℕ) → IsBytes bytes → takeSet L n sender bytes ≡ value set rest
       → Again (goodSet n sender set ≡ true) (numberBytes L set) rest bytes
-  unfolding takeSet
   set-again n sender bytes set rest h e =
-      let x = bind-value (takeNumber L bytes) _ set rest e in
-      let y = when-value (goodSet n sender (x .0)) BadLossSet _ set rest (x .3) in
-      let same : x .0 ≡ set = cc in
-      let ends : x .1 ≡ rest = cc in
-      let w = took-number L bytes (x .0) (x .1) h (x .2) .1 in
-      let g = y .0 in
-      again (numberBytes L set) rest bytes (rw same at g) (ap₂ (λ (s : Seats) (l : List ℕ). numberBytes L s ++ l) (sym same) (sym ends) ∙ w) h
+      let x = set-taken L n sender bytes set rest e in
+      again (numberBytes L set) rest bytes (x .1) (took-number L bytes set rest h (x .0) .1) h
 
   pub sets-again : (n sender left : ℕ) (bytes : List ℕ) (sets : List Seats) (rest : List ℕ) → IsBytes bytes
       → takeSets L n sender left bytes ≡ value sets rest
@@ -116,9 +96,8 @@ module _ (L : Limits) where
       let s = set-again n sender bytes (x .0) (x .1) h (x .2) in
       let later = sets-again n (senderAfter n sender) left (x .1) (y .0) rest (s .after) (y .1) in
       let all = y .2 in
-      rw (← all)
-      (again _ rest bytes (ap suc (later .sound .0), and-intro _ _ (s .sound) (later .sound .1))
-      (rw (append-assoc, later .written, s .written)) h)
+      again (lossBytes L sets) rest bytes (sets-taken L n sender (suc left) bytes sets rest e)
+      (rw (← all) (rw (append-assoc, later .written, s .written))) h
 
   pub rounds-again : (n R : ℕ) (bytes : List ℕ) (losses : List Seats) (rest : List ℕ) → IsBytes bytes
       → takeRounds L n R bytes ≡ value losses rest
@@ -127,60 +106,18 @@ module _ (L : Limits) where
 
   -- ════ Edits ════
 
-  -- The four numbers of an edit, one after the other.
-  pub record EditTook (n R : ℕ) (bytes : List ℕ) (edit : Edit) (rest : List ℕ) : Type 0 where
-    pub seat : ℕ
-    pub time : ℕ
-    pub cell : ℕ
-    pub change : ℕ
-    pub after-seat : List ℕ
-    pub after-time : List ℕ
-    pub after-cell : List ℕ
-    pub took-seat : takeWithin L 0 (n - 1) bytes ≡ value seat after-seat
-    pub took-time : takeWithin L 0 R after-seat ≡ value time after-time
-    pub took-cell : takeWithin L 0 (L .largestCell) after-time ≡ value cell after-cell
-    pub took-change : takeWithin L 0 (L .largestMappedChange) after-cell ≡ value change rest
-    pub made : editOf seat time cell (unmapped change) ≡ edit
-
-  pub edit-took : (n R : ℕ) (bytes : List ℕ) (edit : Edit) (rest : List ℕ) → takeEdit L n R bytes ≡ value edit rest → EditTook n R bytes edit rest
-  unfolding takeEdit
-  edit-took n R bytes edit rest e =
-      let s = bind-value (takeWithin L 0 (n - 1) bytes) _ edit rest e in
-      let t = bind-value (takeWithin L 0 R (s .1)) _ edit rest (s .3) in
-      let c = bind-value (takeWithin L 0 (L .largestCell) (t .1)) _ edit rest (t .3) in
-      let d = bind-value (takeWithin L 0 (L .largestMappedChange) (c .1)) _ edit rest (c .3) in
-      let made : editOf (s .0) (t .0) (c .0) (unmapped (d .0)) ≡ edit = cc in
-      let ends : d .1 ≡ rest = cc in
-      record {
-        seat = s .0;
-        time = t .0;
-        cell = c .0;
-        change = d .0;
-        after-seat = s .1;
-        after-time = t .1;
-        after-cell = c .1;
-        took-seat = s .2;
-        took-time = t .2;
-        took-cell = c .2;
-        took-change = d .2 ∙ ap (λ (l : List ℕ). value (d .0) l) ends;
-        made = made;
-      }
-
   pub edit-again : (n R : ℕ) (bytes : List ℕ) (edit : Edit) (rest : List ℕ) → IsBytes bytes → takeEdit L n R bytes ≡ value edit rest
       → Again (goodEdit L n R edit ≡ true) (editBytes L edit) rest bytes
   unfolding editBytes
   edit-again n R bytes edit rest h e =
-      let w = edit-took n R bytes edit rest e in
+      let w = edit-took L n R bytes edit rest e in
       let s = within-again _ _ _ _ _ h (w .took-seat) in
       let t = within-again _ _ _ _ _ (s .after) (w .took-time) in
       let c = within-again _ _ _ _ _ (t .after) (w .took-cell) in
       let d = within-again _ _ _ _ _ (c .after) (w .took-change) in
       let number = mapped-unmapped (w .change) in
-      rw (← (w .made))
-      (again _ rest bytes
-      (edit-from-facts L n R _
-      (record { seat = s .sound .1; time = t .sound .1; cell = c .sound .1; change = rw number (d .sound .1) }))
-      (simp append-assoc (rw (number, d .written, c .written, t .written, s .written))) h)
+      again _ rest bytes (edit-taken L n R bytes edit rest e)
+      (rw (← (w .made)) (simp append-assoc (rw (number, d .written, c .written, t .written, s .written)))) h
 
   pub edits-again : (n R left : ℕ) (before : Before) (bytes : List ℕ) (edits : List Edit) (rest : List ℕ) → IsBytes bytes
       → takeEdits L n R left before bytes ≡ value edits rest
@@ -195,20 +132,16 @@ module _ (L : Limits) where
       let y = bind-value (when (follows before (x .0)) BadOrder (takeEdits L n R left (This (x .0)) (x .1))) _ edits rest (x .3) in
       let z = when-value (follows before (x .0)) BadOrder (takeEdits L n R left (This (x .0)) (x .1)) (y .0) (y .1) (y .2) in
       let s = edit-again n R bytes (x .0) (x .1) h (x .2) in
-      by (x .0) (x .1) (y .0) (y .1) s (z .0) (edits-again n R left (This (x .0)) (x .1) (y .0) (y .1) (s .after) (z .1)) (y .3)
+      let later = edits-again n R left (This (x .0)) (x .1) (y .0) (y .1) (s .after) (z .1) in
+      again (editsBytes L edits) rest bytes (edits-taken L n R (suc left) before bytes edits rest e)
+      (by (x .0) (x .1) (y .0) (y .1) (s .written) (later .written) (y .3)) h
     where
-      by : (edit : Edit) (a : List ℕ) (more : List Edit) (b : List ℕ) → Again (goodEdit L n R edit ≡ true) (editBytes L edit) a bytes
-          → follows before edit ≡ true
-          → Again ((length more ≡ left) × (goodEdits L n R (This edit) more ≡ true)) (editsBytes L more) b a
-          → value (edit ∷ more) b ≡ value edits rest
-          → Again ((length edits ≡ suc left) × (goodEdits L n R before edits ≡ true)) (editsBytes L edits) rest bytes
-      by edit a more b s f later same =
+      by : (edit : Edit) (a : List ℕ) (more : List Edit) (b : List ℕ) → editBytes L edit ++ a ≡ bytes → editsBytes L more ++ b ≡ a
+          → value (edit ∷ more) b ≡ value edits rest → editsBytes L edits ++ rest ≡ bytes
+      by edit a more b first later same =
           let all : edit ∷ more ≡ edits = cc in
           let ends : b ≡ rest = cc in
-          rw (← all, ← ends)
-          (again (editBytes L edit ++ editsBytes L more) b bytes
-          (ap suc (later .sound .0), and3-intro _ _ _ (s .sound) f (later .sound .1))
-          (rw (append-assoc, later .written, s .written)) h)
+          rw (← all, ← ends) (rw (append-assoc, later, first))
 
   -- ════ The record ════
 
@@ -233,26 +166,11 @@ module _ (L : Limits) where
           let E = edits-again (header .seats) (header .rounds) (header .edits) Nothing b edits c (S .after) s in
           let all : record { header = header; losses = losses; edits = edits } ≡ r = cc in
           let ends : c ≡ rest = cc in
-          rw (← all, ← ends)
-          (again _ c bytes
-          (record-from-facts L _
-          (record {
-            header = H .sound;
-            lossCount = S .sound .0;
-            losses = S .sound .1;
-            editCount = E .sound .0;
-            edits = E .sound .1;
-          }))
-          (simp append-assoc (rw (E .written, S .written, H .written))) h)
-
-  pub whole-good : (t : Taken Record) (r : Record) → whole t ≡ good r → t ≡ value r []
-  unfolding whole
-  whole-good (value x []) r e = ap (λ (y : Record). value y []) (cc)
-  whole-good (value x (b ∷ rest)) r e = cc
-  whole-good (refused f) r e = cc
+          again _ rest bytes (record-taken L bytes r rest e)
+          (rw (← all, ← ends) (simp append-assoc (rw (E .written, S .written, H .written)))) h
 
   pub reading-again : (bytes : List ℕ) (r : Record) → IsBytes bytes → readingOf L bytes ≡ good r → (bytesOf L r ≡ bytes) × (goodRecord L r ≡ true)
   unfolding readingOf
   reading-again bytes r h e =
-      let a = record-again bytes r [] h (whole-good (takeRecord L bytes) r e) in
+      let a = record-again bytes r [] h (whole-good L (takeRecord L bytes) r e) in
       (sym (append-nil (bytesOf L r)) ∙ a .written, a .sound)
