@@ -13,10 +13,10 @@ use Rattle.record.specs.Tables.{over, editOf, editsFrom}
 use Rattle.record.proofs.TableLaws.{over-none, over-first}
 
 -- The used part afterwards is the old one with the new entries.
-pub take-behind : {A : Type 0} (used more : ℕ) (new old : List A) → length (take used old) ≡ used → used + length new ≡ more
+pub used-over : {A : Type 0} (used more : ℕ) (new old : List A) → length (take used old) ≡ used → used + length new ≡ more
     → take more (over used new old) ≡ take used old ++ new
 unfolding over
-take-behind used more new old h e =
+used-over used more new old h e =
     rw (← append-assoc (take used old) new (drop (used + length new) old))
     (take-at (take used old ++ new) (drop (used + length new) old) more (rw (length-append, h) e))
 
@@ -35,18 +35,6 @@ edits-from-append (x ∷ seats) (y ∷ times) [] changes s t c d ht hc hd = absu
 edits-from-append (x ∷ seats) (y ∷ times) (z ∷ cells) [] s t c d ht hc hd = absurd (suc-ne-zero _ (sym hd))
 edits-from-append (x ∷ seats) (y ∷ times) (z ∷ cells) (w ∷ changes) s t c d ht hc hd =
     ap (_∷_ (editOf x y z w)) (edits-from-append seats times cells changes s t c d (omega arith) (omega arith) (omega arith))
-
--- As many edits as the four lists have entries.
-pub edits-from-length : (seats times cells : List ℕ) (changes : List ℤ)
-    → length times ≡ length seats → length cells ≡ length seats → length changes ≡ length seats
-    → length (editsFrom seats times cells changes) ≡ length seats
-unfolding editsFrom
-edits-from-length [] times cells changes ht hc hd = refl
-edits-from-length (x ∷ seats) [] cells changes ht hc hd = absurd (suc-ne-zero _ (sym ht))
-edits-from-length (x ∷ seats) (y ∷ times) [] changes ht hc hd = absurd (suc-ne-zero _ (sym hc))
-edits-from-length (x ∷ seats) (y ∷ times) (z ∷ cells) [] ht hc hd = absurd (suc-ne-zero _ (sym hd))
-edits-from-length (x ∷ seats) (y ∷ times) (z ∷ cells) (w ∷ changes) ht hc hd =
-    ap suc (edits-from-length seats times cells changes (omega arith) (omega arith) (omega arith))
 
 -- The four lists have at least as many entries as there are edits.
 pub record Covered (count : ℕ) (a b c : List ℕ) (d : List ℤ) : Type 0 where

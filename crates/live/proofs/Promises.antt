@@ -1,6 +1,6 @@
 -- The promises of specs/Promises.antt, each proved under its own name.
 -- Assumes nothing.
-use mathlib.Core.Path.{_≡_, refl}
+use mathlib.Core.Path.{_≡_, refl, _∙_}
 use mathlib.Core.Bool.{Bool, true, false, cond}
 use Prim.Native.Nat.{ℕ}
 use native.Mathlib.Omega.{arith}
@@ -8,12 +8,15 @@ use Rattle.farm.specs.Limits.{limits}
 use Rattle.farm.specs.declared.refusals.Refusal.the-variants.{BadTable}
 use Rattle.record.specs.Good.{goodRecord}
 use Rattle.record.specs.Record.{Record, good, bad, bytesOf}
+use Rattle.record.specs.Writing.{Verdict, accepted, faulty}
 use Rattle.record.proofs.Promises.{document-numbers-fit}
 use Rattle.record.proofs.ReadBack.{reading-back}
 use Rattle.record.proofs.TakenGood.{reading-taken}
-use Rattle.live.specs.declared.table.Table.{Table}
 use Rattle.questions.specs.Question.{onRecord}
-use Rattle.live.specs.Calls.{tableAfter, keptOr}
+use Rattle.live.specs.declared.answers.Done.the-variants.{Refused}
+use Rattle.live.specs.declared.table.Table.{Table}
+use Rattle.live.specs.Answers.{doneOf}
+use Rattle.live.specs.Calls.{added, keptOr, answerTo, tableAfter}
 use Rattle.live.specs.Used.{usedRecord, tableReading}
 use Rattle.live.specs.Promises.{Table-refused-exactly-when-not-good, Table-passes-exactly-when-it-reads-back, Good-table-answers-as-its-record, Refused-call-leaves-the-table, Run-keeps-the-record, Run-answers-as-the-record}
 use Rattle.live.proofs.RunLaws as runs
@@ -50,8 +53,12 @@ good-table-answers-as-its-record table r e = (passes table r e .1, λ A ask. rw 
 -- ════ Condition 2: the live table ════
 
 pub refused-call-leaves-the-table : Refused-call-leaves-the-table
-unfolding tableAfter keptOr
-refused-call-leaves-the-table call table refusal e = rw e
+unfolding tableAfter keptOr doneOf
+refused-call-leaves-the-table call before refusal after (said, left) = left ∙ by (answerTo call before) said
+  where
+    by : (v : Verdict) → Refused refusal ≡ doneOf v → keptOr v before (added call before) ≡ before
+    by accepted e = let z : _≡_ {A = ℕ} 0 1 = cc in absurd (omega arith)
+    by (faulty other) e = refl
 
 pub run-keeps-the-record : Run-keeps-the-record
 run-keeps-the-record = runs.run-keeps-the-record

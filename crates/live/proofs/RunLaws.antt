@@ -25,7 +25,7 @@ use Rattle.live.specs.Calls.{Call, opening, round, edit, openedRecord, w
 use Rattle.live.specs.Answers.{doneOf, Ends}
 use Rattle.live.specs.Runs.{Run, stop, step, Told, nothing, told, recorded, recordedIf, recordOfAll}
 use Rattle.live.specs.Promises.{Run-keeps-the-record}
-use Rattle.live.proofs.ListLaws.{take-behind, edits-from-append, Covered, edits-from-covered}
+use Rattle.live.proofs.ListLaws.{used-over, edits-from-append, Covered, edits-from-covered}
 use Rattle.live.proofs.GoodSteps.{AllPass, all-pass, opened-good, round-good, edit-good}
 
 -- ════ Used parts ════
@@ -44,7 +44,7 @@ used-with-round sets table (a, (b, (c, (d, none)))) =
     let f = record-facts limits (usedRecord table) whole in
     let long : length sets ≡ table .seats = eqb-true _ _ fits in
     let losses : take (table .seats * (table .rounds + 1)) (tableWithRound sets table .losses) ≡ take (table .seats * table .rounds) (table .losses) ++ sets
-    = take-behind (table .seats * table .rounds) (table .seats * (table .rounds + 1)) sets (table .losses) (f .lossCount) (omega arith) in
+    = used-over (table .seats * table .rounds) (table .seats * (table .rounds + 1)) sets (table .losses) (f .lossCount) (omega arith) in
     rw losses
 
 take-full : {A : Type 0} (n : ℕ) (l : List A) → n ≤ length (take n l) → length (take n l) ≡ n
@@ -56,10 +56,10 @@ pub used-with-edit : (seat : Seat) (cell : ℕ) (change : ℤ) (table : Table) �
 unfolding usedRecord testsOf
 used-with-edit seat cell change table (a, (b, (c, (d, none)))) =
     rw (
-      take-behind E (E + 1) (seat .0 ∷ []) (table .editors) seats refl,
-      take-behind E (E + 1) (table .rounds ∷ []) (table .times) times refl,
-      take-behind E (E + 1) (cell ∷ []) (table .cells) cells refl,
-      take-behind E (E + 1) (change ∷ []) (table .changes) changes refl,
+      used-over E (E + 1) (seat .0 ∷ []) (table .editors) seats refl,
+      used-over E (E + 1) (table .rounds ∷ []) (table .times) times refl,
+      used-over E (E + 1) (cell ∷ []) (table .cells) cells refl,
+      used-over E (E + 1) (change ∷ []) (table .changes) changes refl,
       edits-from-append (take E (table .editors)) (take E (table .times)) (take E (table .cells)) (take E (table .changes)) (seat .0)
           (table .rounds) cell change (times ∙ sym seats) (cells ∙ sym seats) (changes ∙ sym seats),
     )

@@ -313,8 +313,8 @@ module _ (table : Table) where
   pub asked-good : {A : Type 0} (ask : Record → Asked A) → goodRecord limits (usedRecord table) ≡ true → onRecord (tableReading table) ask ≡ ask (usedRecord table)
   unfolding onRecord
   asked-good ask h = rw (reading-good table h)
-  -- The same of a lent buffer.
 
+-- The same of a lent buffer.
 pub bad-buffer : {A : Type 0} (asked : Asked (List A)) (old : List A) → asked ≡ refused BadTable
     → (Given′.Refused BadTable ≡ givenAnswer asked) × (old ≡ into asked old)
 bad-buffer asked old e = rw e (refl, refl)

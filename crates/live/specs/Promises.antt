@@ -9,12 +9,14 @@ use Rattle.farm.specs.declared.refusals.Refusal.{Refusal}
 use Rattle.farm.specs.declared.refusals.Refusal.the-variants.{BadTable}
 use Rattle.record.specs.Good.{goodRecord}
 use Rattle.record.specs.Record.{Record, good, bad, readingOf, bytesOf}
-use Rattle.record.specs.Writing.{faulty, answered, bufferWith}
+use Rattle.record.specs.Writing.{answered, bufferWith}
 use Rattle.questions.specs.Question.{Asked, onRecord}
 use Rattle.live.specs.declared.answers.Done.{Done}
+use Rattle.live.specs.declared.answers.Done.the-variants.{Refused}
 use Rattle.live.specs.declared.table.Table.{Table}
 use Rattle.live.specs.Used.{usedRecord, tableReading}
-use Rattle.live.specs.Calls.{Call, answerTo, tableAfter}
+use Rattle.live.specs.Calls.{Call}
+use Rattle.live.specs.Answers.{Ends}
 use Rattle.live.specs.Runs.{Run, nothing, told, recordOfAll}
 
 -- ════ Refusal 19 ════
@@ -42,10 +44,10 @@ Good-table-answers-as-its-record =
 -- A refused call of any kind leaves every entry of the table.
 abbrev pub Refused-call-leaves-the-table : Type 0
 Refused-call-leaves-the-table =
-    (call : Call) (table : Table) (refusal : Refusal) → answerTo call table ≡ faulty refusal → tableAfter call table ≡ table
+    (call : Call) (before : Table) (refusal : Refusal) (after : Table) → Ends call before (Refused refusal) after → after ≡ before
 
--- The law of any run: whatever calls are made, on a table in any state, and however they end as their contracts say, after an
--- accepted opening the table reads as the record of the calls accepted since the last one.
+-- The law of any run: whatever calls are made, on a table in any state, once an opening was accepted the table reads as the record of
+-- the calls accepted since the last accepted opening.
 abbrev pub Run-keeps-the-record : Type 0
 Run-keeps-the-record =
     (calls : List Call) (before : Table) (answers : List Done) (after : Table) (r : Record)

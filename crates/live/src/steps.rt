@@ -1,5 +1,5 @@
 // Each call as a step that takes the table by value and hands it back beside the answer. A refusal hands
-// back the table as it came.
+// back the table as it came. A host that holds its table by value calls these.
 use crate::answers::Done;
 use crate::answers::Step;
 use crate::checking::judge_table;
