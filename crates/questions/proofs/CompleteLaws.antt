@@ -12,8 +12,10 @@ use Rattle.questions.proofs.views.ask_standing as ask-standing
 use Rattle.questions.proofs.cores.ask_settled as ask-settled
 use Rattle.questions.proofs.cores.ask_core_into as ask-core-into
 use Rattle.questions.proofs.cores.ask_core as ask-core
+use Rattle.questions.proofs.marks.count_marks as count-marks
 use Rattle.questions.proofs.marks.ask_marks as ask-marks
 use Rattle.questions.proofs.marks.ask_count as ask-count
+use Rattle.questions.proofs.places.ask_place as ask-place
 use Rattle.questions.proofs.reading.read_places as read-places
 use Rattle.questions.proofs.reading.read_losses as read-losses
 use Rattle.questions.proofs.reading.sizes_in as sizes-in
@@ -69,11 +71,17 @@ ask-core-into-complete M 𝓤 H A mem run κs a g r s v w = by-facts M 𝓤 _ _ 
 pub ask-core-complete : Complete ask-core.ended (λ M. ask-core.clauses {M = M})
 ask-core-complete M 𝓤 H A mem run κs a g r s v w = by-facts M 𝓤 _ _ _ (λ p q. (cc, cc))
 
+pub count-marks-complete : Complete count-marks.ended (λ M. count-marks.clauses {M = M})
+count-marks-complete M 𝓤 H A mem run κs a g r s v w = by-facts M 𝓤 _ _ _ (λ p q. (cc, cc))
+
 pub ask-marks-complete : Complete ask-marks.ended (λ M. ask-marks.clauses {M = M})
 ask-marks-complete M 𝓤 H A mem run κs a g r s v w = by-facts M 𝓤 _ _ _ (λ p q. (cc, cc))
 
 pub ask-count-complete : Complete ask-count.ended (λ M. ask-count.clauses {M = M})
 ask-count-complete M 𝓤 H A mem run κs a g r s v w = by-facts M 𝓤 _ _ _ (λ p q. (cc, cc))
+
+pub ask-place-complete : Complete ask-place.ended (λ M. ask-place.clauses {M = M})
+ask-place-complete M 𝓤 H A mem run κs a g r s v w = by-facts M 𝓤 _ _ _ (λ p q. (cc, cc))
 
 -- ════ Reading a record ════
 

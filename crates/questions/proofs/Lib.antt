@@ -5,4 +5,5 @@ pub mod AskLaws
 pub mod CompleteLaws
 pub mod CoreLaws
 pub mod MarkLaws
+pub mod PlaceLaws
 pub mod RecordLaws

@@ -2,11 +2,13 @@
 use mathlib.Core.Bool.{Bool, true, false}
 use mathlib.Core.List.{List, _++_}
 use Prim.Native.Nat.{ℕ}
-use lib.IntN.{ℤ, negsuc}
+use lib.IntN.{ℤ, pos, negsuc}
 use lib.ListN.{length, drop, replicate}
 use Rattle.farm.specs.Limits.{limits}
 use Rattle.farm.specs.Sets.{Seats}
+use Rattle.farm.specs.declared.refusals.Refusal.{Refusal}
 use Rattle.knowledge.specs.Settled as rules
+use Rattle.knowledge.specs.Views.{latestTimes}
 use Rattle.questions.specs.declared.answers.Known.{Known}
 use Rattle.questions.specs.declared.answers.Known.the-variants as known
 use Rattle.questions.specs.declared.answers.Summary.{Summary}
@@ -19,6 +21,8 @@ use Rattle.questions.specs.declared.answers.Standing.the-variants as sta
 use Rattle.questions.specs.declared.answers.Given.{Given}
 use Rattle.questions.specs.declared.answers.Given.the-variants as given
 use Rattle.questions.specs.declared.answers.Times.{Times}
+use Rattle.questions.specs.declared.answers.Place.{Place}
+use Rattle.questions.specs.Marks.{countIn}
 use Rattle.questions.specs.Question.{Asked, found, refused}
 
 -- ════ Answers that are numbers ════
@@ -66,3 +70,25 @@ noTimes = replicate (limits .mostSeats) (negsuc 0)
 
 abbrev pub timesAnswer : Asked (List ℤ) → Times
 timesAnswer asked = record { given = givenAnswer asked; latest = into asked noTimes }
+
+-- ════ All of a place at once ════
+
+abbrev pub noPlace : Refusal → Place
+noPlace refusal =
+    record {
+      given = given.Refused refusal;
+      summary = record { critical = pos 0; kept = 0; steps = 0 };
+      latest = noTimes;
+      count = 0;
+    }
+
+-- The settled answer of a record of n seats, its core as by value, and how many of the edits at these places are in it.
+unfoldable pub placeAnswer : (n : ℕ) (seats times : List ℕ) → Asked rules.Settled → Place
+placeAnswer n seats times (found s) =
+    record {
+      given = given.Done;
+      summary = summaryOf s;
+      latest = laid (latestTimes n (s .core)) noTimes;
+      count = countIn (s .core) seats times;
+    }
+placeAnswer n seats times (refused refusal) = noPlace refusal

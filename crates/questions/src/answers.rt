@@ -45,3 +45,12 @@ pub struct Times {
     pub given: Given,
     pub latest: [i16; 7],
 }
+
+// What the page says of a place: the settled answer, the core as in `Times`, and how many edits are in
+// it. Beside a refusal the summary and the count are 0, and the times are all -1.
+pub struct Place {
+    pub given: Given,
+    pub summary: Summary,
+    pub latest: [i16; 7],
+    pub count: u16,
+}

@@ -6,6 +6,7 @@ pub mod bytes; // bytes.rt: the questions on a record as bytes
 pub mod cores; // cores.rt: settled answers and cores of an accepted record
 pub mod lists; // lists.rt: the questions on a record as lists
 pub mod marks; // marks.rt: which edits of an accepted record are in a core
+pub mod places; // places.rt: all that the page says of a place, settled once
 mod reading; // reading.rt: what a question needs of a record's bytes
 mod times; // times.rt: views as they are given, the latest time of each seat
 pub mod views; // views.rt: views, known sets and losers of an accepted record

@@ -42,8 +42,8 @@ fn put_marks<'a>(core: &'a [u16], editors: &'a [u8], times: &'a [u16], out: &mut
     }
 }
 
-// How many edits are in the core.
-fn count_marks<'a>(core: &'a [u16], editors: &'a [u8], times: &'a [u16]) -> u16
+// How many edits are in the core that the counts hold.
+pub fn count_marks<'a>(core: &'a [u16], editors: &'a [u8], times: &'a [u16]) -> u16
     requires { ⌜ (length (now times) ≡ length (now editors)) × (length (now editors) ≤ limits .mostEdits) ⌝ }
     ensures { λ r. ⌜ r ≡ countIn (held (now (core .entry))) (now (editors .entry)) (now (times .entry)) ⌝ }
 {
