@@ -64,9 +64,17 @@ puts-then {a} {b} {at} {old = old} h first second = record {
 
 -- A line where there is room, and where there is none.
 pub prints : {text : Text} {at end : ℕ} {old new : List ℕ} → leb (at + lineRoom) (length old) ≡ true
-    → Puts text at old new end → Prints text at old new (Length end)
-prints room put = record { answered = rw room (ap Length (put .end)); bytes = rw room (put .bytes) }
+    → Puts text at old new end × (end ≤ at + lineRoom) → Prints text at old new (Length end)
+prints room put = record {
+  answered = rw room (ap Length (put .0 .end));
+  bytes = rw room (put .0 .bytes);
+  short = λ fits. omega (arith, put .0 .end);
+}
 
 pub prints-nothing : (text : Text) (at : ℕ) (buffer : List ℕ) → leb (at + lineRoom) (length buffer) ≡ false
     → Prints text at buffer buffer NoRoom
-prints-nothing text at buffer none = record { answered = rw none; bytes = rw none }
+prints-nothing text at buffer none = record {
+  answered = rw none;
+  bytes = rw none;
+  short = λ fits. let z : false ≡ true = sym none ∙ fits in let no : _≡_ {A = ℕ} 0 1 = cc in omega arith;
+}

@@ -1,8 +1,8 @@
 -- What it means to put a text at a place of a lent buffer, and to print a line there or refuse.
 use mathlib.Core.Path.{_≡_}
-use mathlib.Core.Bool.{cond}
+use mathlib.Core.Bool.{true, cond}
 use mathlib.Core.List.{List, _++_}
-use Prim.Native.Nat.{ℕ, _+_}
+use Prim.Native.Nat.{ℕ, _+_, _≤_}
 use lib.Dec.{leb}
 use lib.ListN.{length, take, drop}
 use Rattle.page.specs.declared.lines.Printed.{Printed}
@@ -23,7 +23,8 @@ abbrev pub lineRoom : ℕ
 lineRoom = 96
 
 -- The line is printed at the place, and the answer is the length of the page up to its end; or it is refused, and no
--- byte changes.
+-- byte changes. No line that is printed is longer than its room.
 pub record Prints (text : Text) (at : ℕ) (old new : List ℕ) (answer : Printed) : Type 0 where
   pub answered : answer ≡ cond (leb (at + lineRoom) (length old)) (Length (at + length text)) NoRoom
   pub bytes : new ≡ cond (leb (at + lineRoom) (length old)) (written text at old) old
+  pub short : leb (at + lineRoom) (length old) ≡ true → length text ≤ lineRoom

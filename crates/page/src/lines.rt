@@ -77,7 +77,7 @@ fn put_place(out: &mut [u8], at: usize, time: Time, seat: Seat, loser: bool) -> 
 
 fn put_header_line(out: &mut [u8], header: HeaderLine) -> usize
     requires { ⌜ lineRoom ≤ length (now out) ⌝ }
-    ensures { λ r. ⌜ Puts (headerLine header) 0 (now (out .entry)) (now (out .exit)) r ⌝ }
+    ensures { λ r. ⌜ Puts (headerLine header) 0 (now (out .entry)) (now (out .exit)) r × (r ≤ lineRoom) ⌝ }
 {
     let seats = put_named(out, 0, b"seats", header.seats as u32);
     let bound = put_named(out, seats, b" bound", header.bound as u32);
@@ -88,7 +88,7 @@ fn put_header_line(out: &mut [u8], header: HeaderLine) -> usize
 
 fn put_place_line(out: &mut [u8], at: usize, line: PlaceLine) -> usize
     requires { ⌜ at + lineRoom ≤ length (now out) ⌝ }
-    ensures { λ r. ⌜ Puts (placeLine line) at (now (out .entry)) (now (out .exit)) r ⌝ }
+    ensures { λ r. ⌜ Puts (placeLine line) at (now (out .entry)) (now (out .exit)) r × (r ≤ at + lineRoom) ⌝ }
 {
     let core = line.core;
     let place = put_place(out, at, line.time, line.seat, line.loser);
@@ -101,7 +101,7 @@ fn put_place_line(out: &mut [u8], at: usize, line: PlaceLine) -> usize
 
 fn put_over_line(out: &mut [u8], at: usize, time: Time, seat: Seat, loser: bool) -> usize
     requires { ⌜ at + lineRoom ≤ length (now out) ⌝ }
-    ensures { λ r. ⌜ Puts (overLine time seat loser) at (now (out .entry)) (now (out .exit)) r ⌝ }
+    ensures { λ r. ⌜ Puts (overLine time seat loser) at (now (out .entry)) (now (out .exit)) r × (r ≤ at + lineRoom) ⌝ }
 {
     let place = put_place(out, at, time, seat, loser);
     put_word(out, place, b" over\n")
@@ -109,7 +109,7 @@ fn put_over_line(out: &mut [u8], at: usize, time: Time, seat: Seat, loser: bool)
 
 fn put_refused_line(out: &mut [u8], number: u8) -> usize
     requires { ⌜ lineRoom ≤ length (now out) ⌝ }
-    ensures { λ r. ⌜ Puts (refusedLine number) 0 (now (out .entry)) (now (out .exit)) r ⌝ }
+    ensures { λ r. ⌜ Puts (refusedLine number) 0 (now (out .entry)) (now (out .exit)) r × (r ≤ lineRoom) ⌝ }
 {
     let word = put_named(out, 0, b"refused", number as u32);
     put_byte(out, word, b'\n')

@@ -137,7 +137,8 @@ returns c =
     let two = puts-then (omega arith) (at-seats .put-named .ensures) (at-bound .put-named2 .ensures) in
     let three = puts-then (omega arith) two (at-rounds .put-named3 .ensures) in
     let four = puts-then (omega arith) three (at-edits .put-named4 .ensures) in
-    rw header-text (puts-then (omega arith) four (at-end .put-byte .ensures))
+    let before = edits-end (at-end .before) in
+    (rw header-text (puts-then (omega arith) four (at-end .put-byte .ensures)), omega arith)
 
 pub put-header-line-spec : {M : Type 1} → statement M
 put-header-line-spec =

@@ -25,7 +25,7 @@ unfolding ascii
 returns c =
     let last = c .before .before in
     let at-place = last .before .before .before .before .before in
-    rw over-text (puts-then (omega arith) (at-place .put-place .ensures .0) (last .put-word .ensures))
+    (rw over-text (puts-then (omega arith) (at-place .put-place .ensures .0) (last .put-word .ensures)), omega arith)
 
 pub put-over-line-spec : {M : Type 1} → statement M
 put-over-line-spec =

@@ -147,7 +147,8 @@ returns c =
     let three = puts-then (omega arith) two (at-steps .put-field .ensures) in
     let four = puts-then (omega arith) three (at-numbers .put-core .ensures .0) in
     let five = puts-then (omega arith) four (at-count .put-field2 .ensures) in
-    rw place-text (puts-then (omega arith) five (at-end .put-byte .ensures))
+    let before = count-end (at-end .before) in
+    (rw place-text (puts-then (omega arith) five (at-end .put-byte .ensures)), omega (arith, at-end .put-byte .ensures .end))
 
 pub put-place-line-spec : {M : Type 1} → statement M
 put-place-line-spec =

@@ -36,7 +36,8 @@ unfolding ascii
 returns c =
     let last = c .before .before in
     let at-word = last .before .before .before .before in
-    rw refused-text (puts-then (omega arith) (at-word .put-named .ensures) (last .put-byte .ensures))
+    let short = number-short (at-word .before .before .before .before) in
+    (rw refused-text (puts-then (omega arith) (at-word .put-named .ensures) (last .put-byte .ensures)), omega arith)
 
 pub put-refused-line-spec : {M : Type 1} → statement M
 put-refused-line-spec =
