@@ -1,0 +1,74 @@
+-- What it means to write a page into a lent buffer, and what the code's functions are about on the way.
+use mathlib.Core.Path.{_≡_}
+use mathlib.Core.Bool.{Bool, true, cond}
+use mathlib.Core.List.{List}
+use Prim.Native.Nat.{ℕ, suc, _+_, _*_, _≤_}
+use lib.Dec.{leb}
+use lib.ListN.{length}
+use Rattle.farm.specs.Limits.{limits}
+use Rattle.farm.specs.Sets.{Seats}
+use Rattle.farm.specs.declared.places.Seat.{Seat}
+use Rattle.farm.specs.declared.places.Time.{Time}
+use Rattle.knowledge.specs.Farm.{losers}
+use Rattle.construction.specs.Counts.{farmFor}
+use Rattle.construction.specs.declared.sizes.Sizes.{Sizes}
+use Rattle.questions.specs.Accepted.{Accepted}
+use Rattle.questions.specs.Marks.{countIn}
+use Rattle.questions.specs.declared.answers.Place.{Place}
+use Rattle.page.specs.Digits.{Text}
+use Rattle.page.specs.Printing.{lineRoom, written}
+use Rattle.page.specs.declared.lines.PlaceLine.{PlaceLine}
+use Rattle.page.specs.declared.lines.Printed.{Printed}
+use Rattle.page.specs.declared.lines.Printed.the-variants.{Length, NoRoom}
+use Rattle.listing.specs.Page.{Counting}
+
+-- ════ Room ════
+
+-- Room for the lines of a time, of all times, and for any page.
+abbrev pub timeRoom : ℕ
+timeRoom = limits .mostSeats * lineRoom
+
+abbrev pub timesRoom : ℕ
+timesRoom = suc (limits .mostRounds) * timeRoom
+
+abbrev pub pageRoom : ℕ
+pageRoom = lineRoom + timesRoom
+
+-- The page is written in front of the buffer, and the answer is its length; or there is no room for every page, and no byte
+-- changes. No page is longer than its room.
+pub record PrintsPage (page : Text) (old new : List ℕ) (answer : Printed) : Type 0 where
+  pub answered : answer ≡ cond (leb pageRoom (length old)) (Length (length page)) NoRoom
+  pub bytes : new ≡ cond (leb pageRoom (length old)) (written page 0 old) old
+  pub short : leb pageRoom (length old) ≡ true → length page ≤ pageRoom
+
+-- ════ On the way ════
+
+-- The numbers of an accepted record, its losers, and at most as many edits as a record has, each with its seat and its time.
+pub record Ready (sizes : Sizes) (losses seats times : List ℕ) (lost : Seats) : Type 0 where
+  pub accepted : Accepted sizes
+  pub parallel : length times ≡ length seats
+  pub few : length seats ≤ limits .mostEdits
+  pub all : lost ≡ losers (farmFor sizes losses)
+
+-- The count of edits over the two lists that hold their places.
+unfoldable pub countFrom : (seats times : List ℕ) → Counting
+countFrom seats times core = countIn core seats times
+
+-- The numbers of a line, from what was asked of its place.
+abbrev pub lineFrom : Place → (seats : ℕ) → Time → Seat → Bool → PlaceLine
+lineFrom place seats time seat loser =
+    record {
+      time = time;
+      seat = seat;
+      loser = loser;
+      critical = place .summary .critical;
+      steps = place .summary .steps;
+      seats = seats;
+      core = place .latest;
+      count = place .count;
+    }
+
+-- Where a line ends; of no line, which has no end, any number will do.
+abbrev pub endIn : Printed → ℕ
+endIn (Length end) = end
+endIn NoRoom = 0
