@@ -1,1 +1,4 @@
+pub mod CompleteLaws
 pub mod LineLaws
+pub mod PageLaws
+pub mod Promises

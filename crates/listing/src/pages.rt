@@ -84,9 +84,9 @@ pub fn write_page(bytes: &[u8], out: &mut [u8]) -> Printed
             let used = header.seats as usize * header.rounds as usize;
             let edits = header.edits as usize;
             Printed::Length(put_page(
-                &losses[0..used],
-                &editors[0..edits],
-                &times[0..edits],
+                &losses[..used],
+                &editors[..edits],
+                &times[..edits],
                 header,
                 out,
             ))

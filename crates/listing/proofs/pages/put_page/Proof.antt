@@ -1,8 +1,26 @@
 -- `listing::pages::put_page` meets its contract: the first line, and the lines of all times where it ends.
 -- Assumes nothing.
+use mathlib.Core.Path.{_≡_}
+use Prim.Native.Nat.{_+_, _≤_}
+use native.Mathlib.Omega.{arith}
 use borrow.Author.Needs.{needs}
+use lib.ListN.{length}
+use Rattle.page.specs.Lines.{headerLine}
+use Rattle.page.specs.Printing.{Puts}
+use Rattle.page.proofs.PrintLaws.{puts-then}
+use Rattle.listing.specs.Page.{numbersOf}
+use Rattle.listing.proofs.LineLaws.{printed-put}
 use Rattle.listing.proofs.pages.put_page.Statement.{statement}
 use Rattle.listing.proofs.pages.put_page.Tie as tie
+
+abbrev start : tie.After-end-of → tie.Start
+start c = c .before .before .before .before .before .before .before .before .before .before
+
+-- The first line is put.
+first : (c : tie.After-end-of)
+    → Puts (headerLine (numbersOf (start c .args .header))) 0 (start c .args .out .now) (c .before .before .before .header-line .last .1 .0) (c .end-of .result)
+    × (c .end-of .result ≤ 96)
+first c = printed-put (let room = start c .pre .3 in omega arith) (c .before .before .before .header-line .ensures) (c .end-of .ensures)
 
 losers-by-requires : tie.Need-losers-by-requires
 losers-by-requires c κs = search needs
@@ -14,13 +32,22 @@ end-of-requires : tie.Need-end-of-requires
 end-of-requires c κs = search needs
 
 put-times-requires : tie.Need-put-times-requires
-put-times-requires c κs = ?
+put-times-requires c κs =
+    let line = first (c .before) in
+    let printed = c .before .before .before .before in
+    let losers = printed .before .before in
+    let pre = start (c .before) .pre in
+    let same = printed .header-line .kept .1 .0 in
+    (record { accepted = pre .0; parallel = pre .1; few = pre .2; all = losers .losers-by .ensures }, omega arith)
 
 same-length : tie.Need-same-length
 same-length c = search needs
 
 returns : tie.Need-returns
-returns c = ?
+returns c =
+    let last = c .before .before in
+    let line = first (last .before .before) in
+    (puts-then (omega arith) (line .0) (last .put-times .ensures .0), omega arith)
 
 pub put-page-spec : {M : Type 1} → statement M
 put-page-spec =
