@@ -1,0 +1,2 @@
+-- What the lister's own functions are about.
+pub mod Input
