@@ -9,6 +9,17 @@ pub enum Input {
     Unreadable,
 }
 
+// One read: how many bytes came, none at the end of the input.
+fn read_some(buffer: &mut [u8]) -> Input
+    ensures { λ r. ⌜ Within (length (now (buffer .exit))) r ⌝ }
+{
+    let got = libc::read(STDIN_FILENO, buffer);
+    if got < 0 {
+        return Input::Unreadable;
+    }
+    Input::Taken(io::count(got, buffer))
+}
+
 // Reads until the buffer is full or the input ends.
 pub fn take_input(buffer: &mut [u8]) -> Input
     ensures { λ r. ⌜ Within (length (now (buffer .exit))) r ⌝ }
@@ -16,14 +27,14 @@ pub fn take_input(buffer: &mut [u8]) -> Input
     let mut taken = 0;
     while taken < buffer.len() {
         let rest = &mut buffer[taken..];
-        let got = libc::read(STDIN_FILENO, rest);
-        if got < 0 {
+        let got = read_some(rest);
+        let Input::Taken(count) = got else {
             return Input::Unreadable;
-        }
-        if got == 0 {
+        };
+        if count == 0 {
             return Input::Taken(taken);
         }
-        taken += got as usize;
+        taken += count;
     }
     Input::Taken(taken)
 }

@@ -1,12 +1,13 @@
 -- The page of a record that was read into tables, and what is left in the buffer. Assumes nothing.
 use mathlib.Core.Path.{_≡_, refl, sym, _∙_, ap, fun-ext}
-use mathlib.Core.Bool.{false}
+use mathlib.Core.Bool.{Bool, true, false}
 use mathlib.Core.List.{List, _++_}
 use Prim.Native.Nat.{ℕ, suc, _+_, _*_, _<_, _≤_}
 use native.Mathlib.Nat.{zero-add}
 use native.Mathlib.Omega.{arith}
 use lib.ListN.{length, take}
-use borrow.Author.Tests.{le-leb, lt-leb}
+use lib.Dec.{leb}
+use borrow.Author.Tests.{le-leb, lt-leb, leb-true}
 use Rattle.farm.specs.Refusals.{numberOf}
 use Rattle.farm.specs.declared.refusals.Refusal.{Refusal}
 use Rattle.construction.specs.Counts.{farmFor}
@@ -116,3 +117,20 @@ page-printed {text} {old = old} room same p =
     let short = p .short line in
     rw (← same)
     (record { answered = rw fits ((rw line at (p .answered)) ∙ ap Length (zero-add (length text))); bytes = rw fits (rw line at (p .bytes)); short = λ t. omega arith })
+
+-- What was written lies within the buffer: what a program that hands it on asks for.
+pub page-within : (page : Text) (old new : List ℕ) (answer : Printed) (end : ℕ) → PrintsPage page old new answer → answer ≡ Length end
+    → end ≤ length old
+page-within page old new answer end p e = by (leb pageRoom (length old)) refl
+  where
+    by : (b : Bool) → leb pageRoom (length old) ≡ b → end ≤ length old
+    by true fits =
+        let is : answer ≡ Length (length page) = rw fits at (p .answered) in
+        let ends : end ≡ length page = cc in
+        let short = p .short fits in
+        let room = leb-true pageRoom (length old) fits in
+        omega arith
+    by false none =
+        let is : answer ≡ NoRoom = rw none at (p .answered) in
+        let z : _≡_ {A = ℕ} 0 1 = cc in
+        absurd (omega arith)
