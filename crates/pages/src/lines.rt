@@ -3,6 +3,7 @@
 use crate::digits::NO_DIGIT;
 use crate::digits::digit_of;
 use crate::output::print;
+use crate::output::print_front;
 use crate::output::print_page;
 use listing::pages::PAGE_ROOM;
 ghost use Rattle.pages.specs.Lines.{Within};
@@ -111,8 +112,7 @@ fn end_copied(state: State, kept: &mut [u8; LINE_ROOM]) -> State
     ensures { λ r. ⌜ Within r ⌝ }
 {
     let whole = take_copied(state, b'\n', kept);
-    let length = whole.length;
-    after(print(&kept[..length]))
+    after(print_front(kept, whole.length))
 }
 
 // The end of a record's line.
@@ -120,8 +120,7 @@ fn end_record(state: State, kept: &[u8; LINE_ROOM], page: &mut [u8; PAGE_ROOM]) 
     requires { ⌜ Within state ⌝ }
     ensures { λ r. ⌜ Within r ⌝ }
 {
-    let length = state.length;
-    after(print_page(&kept[..length], page))
+    after(print_page(kept, state.length, page))
 }
 
 fn end_line(state: State, kept: &mut [u8; LINE_ROOM], page: &mut [u8; PAGE_ROOM]) -> State

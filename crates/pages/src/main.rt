@@ -19,11 +19,7 @@ const INPUT_ROOM: usize = 65_536;
 
 // A proved loop has to end, and nothing says that the input does. So the loop counts its turns down,
 // from a number that no run uses up.
-fn take_all(
-    input: &mut [u8; INPUT_ROOM],
-    line: &mut [u8; LINE_ROOM],
-    page: &mut [u8; PAGE_ROOM],
-) {
+fn take_all(input: &mut [u8], line: &mut [u8; LINE_ROOM], page: &mut [u8; PAGE_ROOM]) {
     let mut turns = u64::MAX;
     let mut state = State {
         line: Line::Fresh,

@@ -3,6 +3,8 @@ use libc::STDERR_FILENO;
 use libc::STDOUT_FILENO;
 use listing::pages::write_page;
 use page::lines::Printed;
+ghost use Prim.Native.Nat.{_≤_};
+ghost use lib.ListN.{length};
 
 pub fn complain(words: &[u8]) {
     io::write_all(STDERR_FILENO, words);
@@ -17,11 +19,20 @@ pub fn print(text: &[u8]) -> bool {
     is_written
 }
 
-// The page of a record, made in a buffer with room for any page.
-pub fn print_page(record: &[u8], page: &mut [u8]) -> bool {
-    let printed = write_page(record, page);
-    let Printed::Length(length) = printed else {
+// The same of the first bytes of a buffer.
+pub fn print_front(text: &[u8], count: usize) -> bool
+    requires { ⌜ count ≤ length (now text) ⌝ }
+{
+    print(&text[0..count])
+}
+
+// The page of the record in the first bytes of a buffer. It is made in one with room for any page.
+pub fn print_page(bytes: &[u8], count: usize, page: &mut [u8]) -> bool
+    requires { ⌜ count ≤ length (now bytes) ⌝ }
+{
+    let printed = write_page(&bytes[0..count], page);
+    let Printed::Length(end) = printed else {
         return false;
     };
-    print(&page[..length])
+    print_front(page, end)
 }
