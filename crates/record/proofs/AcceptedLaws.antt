@@ -3,8 +3,8 @@
 use mathlib.Core.Path.{_≡_, refl, _∙_, ap}
 use mathlib.Core.Bool.{true, false}
 use mathlib.Core.List.{List, [], _∷_}
-use Prim.Native.Nat.{ℕ, zero, suc, _+_, _^_, _<_, _≤_}
-use native.Mathlib.Nat.{zero-add}
+use Prim.Native.Nat.{ℕ, zero, suc, _+_, _*_, _^_, _<_, _≤_}
+use native.Mathlib.Nat.{zero-add, mul-le-mul}
 use native.Mathlib.Omega.{arith}
 use lib.Dec.{leb}
 use lib.ListN.{length, getD, length-append}
@@ -17,6 +17,7 @@ use Rattle.record.specs.declared.edits.Before.the-variants.{Nothing, Thi
 use Rattle.record.specs.declared.judging.Judged.the-variants.{Accepted, Refused}
 use Rattle.record.specs.declared.writing.Written.{Written}
 use Rattle.record.specs.declared.writing.Written.the-variants.{Length, Refused as NotWritten}
+use Rattle.record.specs.Lengths.{numbersLength, changesLength}
 use Rattle.record.specs.Header.{headerBytes}
 use Rattle.record.specs.Losses.{lossBytes}
 use Rattle.record.specs.Edits.{follows, editsBytes}
@@ -26,10 +27,10 @@ use Rattle.record.specs.Tables.{Tables, cellsOf}
 use Rattle.record.specs.Writing.{Verdict, accepted, faulty, headerFrom, editsIn, judgedLists, recordFrom, judged, checkedLists, count, unwritten, needed, neededBy, answered, writtenTo, bufferWith, bufferAfter}
 use Rattle.record.specs.Placing.{Put}
 use Rattle.record.specs.Answers.{judgedIn, writtenIn}
-use Rattle.record.proofs.GoodLaws.{and3-elim, HeaderFacts, header-facts, edit-facts, record-facts}
+use Rattle.record.proofs.GoodLaws.{and3-elim, HeaderFacts, header-facts, edit-facts, RecordFacts, record-facts}
 use Rattle.record.proofs.ColumnLaws.{columns-from-edits}
 use Rattle.record.proofs.WritingLaws.{unless-accepted, fitting-elim, Fitting, lists-accepted}
-use Rattle.record.proofs.LengthLaws.{record-length}
+use Rattle.record.proofs.LengthLaws.{record-length, record-most, sets-length, edits-exactly}
 
 -- ════ The judging code's answers ════
 
@@ -59,7 +60,7 @@ module _ (n t R : ℕ) (lists : Tables) where
   sizeOf = length (bytesOf limits (recordFrom n t R lists))
 
   -- Header, losses and edits, one after the other.
-  pub size-parts : sizeOf
+  size-parts : sizeOf
       ≡ length (headerBytes limits (headerFrom n t R lists)) + length (lossBytes limits (lists .losses)) + length (editsBytes limits (editsIn lists))
   unfolding bytesOf recordFrom
   size-parts = simp length-append
@@ -86,6 +87,44 @@ module _ (n t R : ℕ) (lists : Tables) where
         let sound = record-facts limits _ (lists-accepted limits n t R lists _ (checked-good limits v) .sound) .edits in
         let small = rw same at (good-cells limits n R Nothing (editsIn lists) sound i) in
         omega arith
+
+    -- The good record that the lists are.
+    accepted-facts : RecordFacts limits (recordFrom n t R lists)
+    accepted-facts = record-facts limits _ (lists-accepted limits n t R lists _ (checked-good limits v) .sound)
+
+    accepted-sets : length (lossBytes limits (lists .losses)) ≡ length (lists .losses)
+    unfolding recordFrom
+    accepted-sets = sets-length n 0 (lists .losses) (accepted-header .most) (accepted-facts .losses)
+
+    accepted-edits : length (editsBytes limits (editsIn lists))
+        ≡ 2 * length (lists .seats) + numbersLength limits (lists .cells) + changesLength limits (lists .changes)
+    unfolding recordFrom
+    accepted-edits =
+        let f = accepted-lengths in
+        let same = columns-from-edits (lists .seats) (lists .times) (lists .cells) (lists .changes) (f .times) (f .cells) (f .changes) in
+        let parts = edits-exactly n R Nothing (editsIn lists) (accepted-header .most) (accepted-header .rounds) (accepted-facts .edits) in
+        rw (same .count, same .cells-same, same .changes-same) at parts
+
+    pub accepted-sets-few : length (lists .losses) ≤ 889
+    accepted-sets-few =
+        let area : n * R ≤ 7 * 127 = mul-le-mul (accepted-header .most) (accepted-header .rounds) in
+        omega (arith, accepted-lengths .losses)
+
+    -- A byte for each loss set, seat and time, and what the other numbers take.
+    pub accepted-parts : sizeOf
+        ≡ length (headerBytes limits (headerFrom n t R lists)) + (length (lists .losses) + 2 * length (lists .seats)) + numbersLength limits (lists .cells) + changesLength limits (lists .changes)
+    accepted-parts =
+        let sets = accepted-sets in
+        let edits = accepted-edits in
+        omega (arith, size-parts)
+
+    pub accepted-most : sizeOf ≤ 5 + length (lists .losses) + 8 * length (lists .seats)
+    unfolding recordFrom
+    accepted-most =
+        let f = accepted-lengths in
+        let same = columns-from-edits (lists .seats) (lists .times) (lists .cells) (lists .changes) (f .times) (f .cells) (f .changes) in
+        let most = record-most (recordFrom n t R lists) (lists-accepted limits n t R lists _ (checked-good limits v) .sound) in
+        omega (arith, same .count)
 
     pub accepted-size : sizeOf ≤ 4990
     accepted-size = record-length (recordFrom n t R lists) (lists-accepted limits n t R lists _ (checked-good limits v) .sound)

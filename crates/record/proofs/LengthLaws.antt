@@ -24,9 +24,10 @@ use Rattle.record.specs.Changes.{mapped}
 use Rattle.record.specs.Header.{headerBytes}
 use Rattle.record.specs.Losses.{goodSet, lossBytes}
 use Rattle.record.specs.Edits.{rises, follows, editBytes, editsBytes}
+use Rattle.record.specs.Lengths.{numbersLength, changesLength}
 use Rattle.record.specs.Record.{Record, bytesOf}
 use Rattle.record.specs.Good.{goodHeader, senderAfter, goodSets, goodEdit, goodEdits, goodRecord}
-use Rattle.record.specs.Tables.{editOf}
+use Rattle.record.specs.Tables.{editOf, cellsOf, changesOf}
 use Rattle.record.specs.Longest.{longEdits, longest}
 use Rattle.record.proofs.OrderLaws.{set-intro}
 use Rattle.record.proofs.GoodLaws.{and3-elim, and3-intro, header-facts, set-facts, edit-facts, edit-from-facts, record-facts, record-from-facts}
@@ -51,6 +52,10 @@ pub number-length : (L : Limits) (v k : ℕ) → v < 128 ^ suc k → length (num
 unfolding numberBytes
 number-length L v k h = groups-length (L .longestNumber - 1) v k h
 
+exactly-one : (v : ℕ) → v < 128 → length (numberBytes limits v) ≡ 1
+unfolding numberBytes groupsOf
+exactly-one v h = rw (lt-ltb v 128 h)
+
 -- ════ At most ════
 
 one-byte : (v : ℕ) → v < 128 → length (numberBytes limits v) ≤ 1
@@ -72,14 +77,14 @@ header-length h g =
     let E = two-bytes (h .edits) (omega arith) in
     simp length-append (omega arith)
 
-sets-length : (n sender : ℕ) (sets : List Seats) → n ≤ 7 → goodSets n sender sets ≡ true → length (lossBytes limits sets) ≤ length sets
+pub sets-length : (n sender : ℕ) (sets : List Seats) → n ≤ 7 → goodSets n sender sets ≡ true → length (lossBytes limits sets) ≡ length sets
 unfolding goodSets lossBytes
-sets-length n sender [] few g = lit≤ tt
+sets-length n sender [] few g = refl
 sets-length n sender (set ∷ sets) few g =
     let x = and-elim (goodSet n sender set) (goodSets n (senderAfter n sender) sets) g in
     let low = set-facts n sender set (x .0) in
     let power : 2 ^ n ≤ 2 ^ 7 = pow-le-pow-right {n = 2} (lit< tt) few in
-    let first = one-byte set (omega arith) in
+    let first = exactly-one set (omega arith) in
     let below = sets-length n (senderAfter n sender) sets few (x .1) in
     simp length-append (omega arith)
 
@@ -103,25 +108,45 @@ edits-length n R before (e ∷ edits) few short g =
     let below = edits-length n R (This e) edits few short (x .2) in
     simp length-append (omega arith)
 
-pub record-length : (r : Record) → goodRecord limits r ≡ true → length (bytesOf limits r) ≤ 4990
+-- A header has at most five bytes, a set one, and an edit at most eight.
+pub record-most : (r : Record) → goodRecord limits r ≡ true → length (bytesOf limits r) ≤ 5 + length (r .losses) + 8 * length (r .edits)
 unfolding bytesOf
-record-length r g =
+record-most r g =
     let f = record-facts limits r g in
     let h = header-facts limits (r .header) (f .header) in
     let a = header-length (r .header) (f .header) in
     let b = sets-length (r .header .seats) 0 (r .losses) (h .most) (f .losses) in
     let c = edits-length (r .header .seats) (r .header .rounds) Nothing (r .edits) (h .most) (h .rounds) (f .edits) in
+    simp length-append (omega arith)
+
+pub record-length : (r : Record) → goodRecord limits r ≡ true → length (bytesOf limits r) ≤ 4990
+record-length r g =
+    let f = record-facts limits r g in
+    let h = header-facts limits (r .header) (f .header) in
     let area : r .header .seats * r .header .rounds ≤ 7 * 127 = mul-le-mul (h .most) (h .rounds) in
     let sets = f .lossCount in
     let edits = f .editCount in
     let most = h .edits in
-    simp length-append (omega arith)
+    omega (arith, record-most r g)
 
 -- ════ Exactly ════
 
 exactly-three : (v : ℕ) → 16384 ≤ v → length (numberBytes limits v) ≡ 3
 unfolding numberBytes groupsOf
 exactly-three v h = rw (le-ltb v 128 (omega arith), le-ltb (v / 128) 128 (omega arith))
+
+-- The seat and the time of an edit take one byte each.
+pub edits-exactly : (n R : ℕ) (before : Before) (edits : List Edit) → n ≤ 7 → R ≤ 127 → goodEdits limits n R before edits ≡ true
+    → length (editsBytes limits edits) ≡ 2 * length edits + numbersLength limits (cellsOf edits) + changesLength limits (changesOf edits)
+unfolding goodEdits editsBytes editBytes cellsOf changesOf numbersLength changesLength
+edits-exactly n R before [] few short g = refl
+edits-exactly n R before (e ∷ edits) few short g =
+    let x = and3-elim (goodEdit limits n R e) (follows before e) (goodEdits limits n R (This e) edits) g in
+    let f = edit-facts limits n R e (x .0) in
+    let s = exactly-one (e .seat .0) (omega arith) in
+    let t = exactly-one (e .time .0) (omega arith) in
+    let below = edits-exactly n R (This e) edits few short (x .2) in
+    simp length-append (omega arith)
 
 long-edits-bytes : (cell left : ℕ) → 16384 ≤ cell → length (editsBytes limits (longEdits cell left)) ≡ 8 * left
 unfolding longEdits editsBytes editBytes mapped

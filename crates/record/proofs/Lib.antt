@@ -28,5 +28,6 @@ pub mod Promises
 pub mod JudgingLaws
 pub mod PlacingLaws
 pub mod SizeLaws
+pub mod CountingLaws
 pub mod AcceptedLaws
 pub mod CompleteLaws

@@ -6,16 +6,14 @@ use Prim.Native.Nat.{ℕ, _+_, _/_, _%_, _<_, _≤_}
 use native.Mathlib.Numerals.{add-one}
 use native.Mathlib.Omega.{arith}
 use lib.IntN.{ℤ}
-use lib.ListN.{length, getD, drop, length-append, drop-of-length-le}
+use lib.ListN.{length, getD, drop, drop-of-length-le}
 use lib.Seq.{drop-cons}
 use borrow.Author.Tests.{lt-ltb, le-ltb}
 use Rattle.farm.proofs.Cases.{less-or-not}
 use mathlib.Core.Logic.{_⊎_, ⊎-elim}
 use Rattle.farm.specs.Limits.{Limits, limits}
 use Rattle.farm.specs.Sets.{Seats}
-use Rattle.record.specs.declared.edits.Edit.{Edit}
 use Rattle.record.specs.Numbers.{groupsOf, numberBytes}
-use Rattle.record.specs.Changes.{mapped}
 use Rattle.record.specs.Losses.{lossBytes}
 use Rattle.record.specs.Edits.{editBytes, editsBytes}
 use Rattle.record.proofs.JudgingLaws.{Place, editAt, editsAfter, edits-next, edits-done}
@@ -59,15 +57,6 @@ module _ (L : Limits) (i : ℕ) (losses : List Seats) where
   losses-done h = rw (drop-of-length-le losses h)
 
 -- ════ Edits ════
-
-pub edit-at-most : (e : Edit) → length (editBytes limits e) ≤ 12
-unfolding editBytes
-edit-at-most e =
-    let s = at-most-three (e .seat .0) in
-    let t = at-most-three (e .time .0) in
-    let c = at-most-three (e .cell) in
-    let d = at-most-three (mapped (e .change)) in
-    simp length-append (omega arith)
 
 module _ (L : Limits) (i : ℕ) (seats times cells : List ℕ) (changes : List ℤ) where
   pub edits-bytes-next : Place i seats times cells changes

@@ -14,6 +14,7 @@ pub mod Good
 pub mod Widths
 pub mod Columns
 pub mod Writing
+pub mod Lengths
 pub mod Faults
 pub mod ListFaults
 pub mod Answers

@@ -13,14 +13,12 @@ ghost use Rattle.record.specs.Numbers.{numberBytes};
 ghost use Rattle.record.specs.Header.{headerBytes};
 ghost use Rattle.record.specs.Losses.{lossBytes};
 ghost use Rattle.record.specs.Edits.{editBytes, editsBytes};
+ghost use Rattle.record.specs.Lengths.{numbersLength, changesLength};
 ghost use Rattle.record.specs.Record.{bytesOf};
 ghost use Rattle.record.specs.Tables.{editOf, editsFrom};
 ghost use Rattle.record.specs.Placing.{Put};
 ghost use Rattle.record.specs.Writing.{accepted, judgedLists, recordFrom, neededBy, writtenTo, bufferAfter};
 ghost use Rattle.record.specs.Answers.{listsOf, writtenIn};
-
-// The longest good record has this many bytes (document 01, "The record").
-const LONGEST_RECORD: usize = 4_990;
 
 pub enum Written {
     // How many bytes the record has.
@@ -49,44 +47,31 @@ fn header_length(seats: u8, bound: u8, rounds: u16, edits: usize) -> usize
     first + number_length(rounds as u32) + number_length(edits as u32)
 }
 
-fn losses_length(losses: &[u16]) -> usize
-    ensures { λ r. ⌜ r ≡ length (lossBytes limits (now (losses .entry))) ⌝ }
+fn cells_length(cells: &[u32]) -> usize
+    ensures { λ r. ⌜ r ≡ numbersLength limits (now (cells .entry)) ⌝ }
 {
     let mut total: usize = 0;
     let mut i: usize = 0;
-    while i < losses.len() {
-        total += number_length(losses[i] as u32);
+    while i < cells.len() {
+        total += number_length(cells[i]);
         i += 1;
     }
     total
 }
 
-fn edit_length(seat: u8, time: u16, cell: u32, change: i16) -> usize
-    ensures { λ r. ⌜ r ≡ length (editBytes limits (editOf seat time cell change)) ⌝ }
-{
-    let place = number_length(seat as u32) + number_length(time as u32);
-    place + number_length(cell) + number_length(map_change(change) as u32)
-}
-
-fn edits_length<'a>(
-    editors: &'a [u8],
-    times: &'a [u16],
-    cells: &'a [u32],
-    changes: &'a [i16],
-) -> usize
-    requires { ⌜ (length (now editors) < 128 ^ 3) × (length (now times) ≡ length (now editors)) × (length (now cells) ≡ length (now editors)) × (length (now changes) ≡ length (now editors)) ⌝ }
-    ensures { λ r. ⌜ r ≡ length (editsBytes limits (editsFrom (now (editors .entry)) (now (times .entry)) (now (cells .entry)) (now (changes .entry)))) ⌝ }
+fn changes_length(changes: &[i16]) -> usize
+    ensures { λ r. ⌜ r ≡ changesLength limits (now (changes .entry)) ⌝ }
 {
     let mut total: usize = 0;
     let mut i: usize = 0;
-    while i < editors.len() {
-        total += edit_length(editors[i], times[i], cells[i], changes[i]);
+    while i < changes.len() {
+        total += number_length(map_change(changes[i]) as u32);
         i += 1;
     }
     total
 }
 
-// How many bytes accepted lists take.
+// How many bytes accepted lists take. Every loss set, seat and time takes one.
 fn accepted_length<'a>(
     seats: u8,
     bound: u8,
@@ -101,11 +86,12 @@ fn accepted_length<'a>(
     ensures { λ r. ⌜ r ≡ length (bytesOf limits (recordFrom seats bound rounds (listsOf (now (losses .entry)) (now (editors .entry)) (now (times .entry)) (now (cells .entry)) (now (changes .entry))))) ⌝ }
 {
     let header = header_length(seats, bound, rounds, editors.len());
-    let before_edits = header + losses_length(losses);
-    before_edits + edits_length(editors, times, cells, changes)
+    let single = losses.len() + 2 * editors.len();
+    header + single + cells_length(cells) + changes_length(changes)
 }
 
-// Whether accepted lists fit a buffer. One that any good record fits spares the counting.
+// Whether accepted lists fit a buffer. The counting is spared where any record of as many sets and edits fits:
+// a header has at most five bytes and an edit at most eight.
 fn has_room<'a>(
     room: usize,
     seats: u8,
@@ -120,7 +106,8 @@ fn has_room<'a>(
     requires { ⌜ judgedLists limits seats bound rounds (listsOf (now losses) (now editors) (now times) (now cells) (now changes)) ≡ accepted ⌝ }
     ensures { λ r. ⌜ r ≡ leb (length (bytesOf limits (recordFrom seats bound rounds (listsOf (now (losses .entry)) (now (editors .entry)) (now (times .entry)) (now (cells .entry)) (now (changes .entry)))))) room ⌝ }
 {
-    if LONGEST_RECORD <= room {
+    let most = 5 + losses.len() + 8 * editors.len();
+    if most <= room {
         return true;
     }
     accepted_length(seats, bound, rounds, losses, editors, times, cells, changes) <= room
