@@ -1,0 +1,660 @@
+// The rules of document 01 in plain C, in the same steps as the library: a record is checked and then filled
+// in; lists are judged, counted where the room may be short, and then put; views go forward round by round.
+#include "plain.h"
+
+#include <stdbool.h>
+#include <string.h>
+
+enum {
+    FEWEST_SEATS = 2,
+    MOST_SEATS = 7,
+    MOST_ROUNDS = 127,
+    MOST_EDITS = 512,
+    LARGEST_CELL = 65535,
+    LARGEST_MAPPED_CHANGE = 65535,
+};
+
+enum refusal {
+    ACCEPTED = 0,
+    ENDS_EARLY = 1,
+    BAD_FORM = 2,
+    OUT_OF_RANGE = 3,
+    BAD_LOSS_SET = 4,
+    BAD_ORDER = 5,
+    BYTES_LEFT = 6,
+    NO_ROOM = 7,
+    NO_SUCH_PLACE = 8,
+    OVER_BOUND = 9,
+    BAD_LENGTHS = 10,
+    ROUNDS_FULL = 11,
+    BAD_TABLE = 19,
+};
+
+struct header {
+    uint8_t seats;
+    uint8_t bound;
+    uint16_t rounds;
+    uint16_t edits;
+};
+
+struct edit {
+    uint8_t seat;
+    uint16_t time;
+    uint32_t cell;
+    int16_t change;
+};
+
+// A record as lists: the loss sets, and a list for each field of the edits.
+struct lists {
+    const uint16_t *losses;
+    size_t losses_count;
+    const uint8_t *editors;
+    size_t editors_count;
+    const uint16_t *times;
+    size_t times_count;
+    const uint32_t *cells;
+    size_t cells_count;
+    const int16_t *changes;
+    size_t changes_count;
+};
+
+// The bytes of a record that are not read yet.
+struct reader {
+    const uint8_t *next;
+    const uint8_t *end;
+};
+
+// ---- Reading ----
+
+static inline enum refusal read_number(struct reader *reader, uint32_t *value)
+{
+    const uint8_t *next = reader->next;
+    if (next == reader->end)
+        return ENDS_EARLY;
+    uint32_t low = *next++;
+    if (low < 128) {
+        *value = low;
+        reader->next = next;
+        return ACCEPTED;
+    }
+    if (next == reader->end)
+        return ENDS_EARLY;
+    uint32_t middle = *next++;
+    if (middle == 0)
+        return BAD_FORM;
+    if (middle < 128) {
+        *value = low - 128 + (middle << 7);
+        reader->next = next;
+        return ACCEPTED;
+    }
+    if (next == reader->end)
+        return ENDS_EARLY;
+    uint32_t high = *next++;
+    if (high == 0 || high >= 128)
+        return BAD_FORM;
+    *value = low - 128 + ((middle - 128) << 7) + (high << 14);
+    reader->next = next;
+    return ACCEPTED;
+}
+
+static inline enum refusal read_within(struct reader *reader, uint32_t least, uint32_t most, uint32_t *value)
+{
+    enum refusal refusal = read_number(reader, value);
+    if (refusal)
+        return refusal;
+    return *value < least || *value > most ? OUT_OF_RANGE : ACCEPTED;
+}
+
+static enum refusal read_header(struct reader *reader, struct header *header)
+{
+    uint32_t seats, bound, rounds, edits;
+    enum refusal refusal;
+    if ((refusal = read_within(reader, FEWEST_SEATS, MOST_SEATS, &seats)))
+        return refusal;
+    if ((refusal = read_within(reader, 0, seats - 1, &bound)))
+        return refusal;
+    if ((refusal = read_within(reader, 0, MOST_ROUNDS, &rounds)))
+        return refusal;
+    if ((refusal = read_within(reader, 0, MOST_EDITS, &edits)))
+        return refusal;
+    *header = (struct header){seats, bound, rounds, edits};
+    return ACCEPTED;
+}
+
+static bool good_set(unsigned seats, unsigned sender, uint32_t set)
+{
+    return set >> seats == 0 && (set >> sender & 1) == 0;
+}
+
+static enum refusal check_losses(struct reader *reader, struct header header)
+{
+    for (unsigned round = 0; round < header.rounds; round++)
+        for (unsigned sender = 0; sender < header.seats; sender++) {
+            uint32_t set;
+            enum refusal refusal = read_number(reader, &set);
+            if (refusal)
+                return refusal;
+            if (!good_set(header.seats, sender, set))
+                return BAD_LOSS_SET;
+        }
+    return ACCEPTED;
+}
+
+static int16_t unmap_change(uint32_t number)
+{
+    int half = number / 2;
+    return number % 2 == 0 ? half : -1 - half;
+}
+
+static uint16_t map_change(int16_t change)
+{
+    return change < 0 ? 2 * (-1 - change) + 1 : 2 * change;
+}
+
+static enum refusal read_edit(struct reader *reader, struct header header, struct edit *edit)
+{
+    uint32_t seat, time, cell, change;
+    enum refusal refusal;
+    if ((refusal = read_within(reader, 0, header.seats - 1, &seat)))
+        return refusal;
+    if ((refusal = read_within(reader, 0, header.rounds, &time)))
+        return refusal;
+    if ((refusal = read_within(reader, 0, LARGEST_CELL, &cell)))
+        return refusal;
+    if ((refusal = read_within(reader, 0, LARGEST_MAPPED_CHANGE, &change)))
+        return refusal;
+    *edit = (struct edit){seat, time, cell, unmap_change(change)};
+    return ACCEPTED;
+}
+
+// Whether an edit comes before another: by time, then seat, then cell.
+static bool rises(const struct edit *a, const struct edit *b)
+{
+    if (a->time != b->time)
+        return a->time < b->time;
+    if (a->seat != b->seat)
+        return a->seat < b->seat;
+    return a->cell < b->cell;
+}
+
+static enum refusal check_edits(struct reader *reader, struct header header)
+{
+    struct edit before, edit;
+    for (unsigned i = 0; i < header.edits; i++) {
+        enum refusal refusal = read_edit(reader, header, &edit);
+        if (refusal)
+            return refusal;
+        if (i > 0 && !rises(&before, &edit))
+            return BAD_ORDER;
+        before = edit;
+    }
+    return ACCEPTED;
+}
+
+static enum refusal check(const uint8_t *bytes, size_t count, struct header *header)
+{
+    struct reader reader = {bytes, bytes + count};
+    enum refusal refusal;
+    if ((refusal = read_header(&reader, header)))
+        return refusal;
+    if ((refusal = check_losses(&reader, *header)))
+        return refusal;
+    if ((refusal = check_edits(&reader, *header)))
+        return refusal;
+    return reader.next < reader.end ? BYTES_LEFT : ACCEPTED;
+}
+
+// The second pass, over a record that the first one found good.
+static void fill(const uint8_t *bytes, size_t count, uint16_t *losses, uint8_t *seats, uint16_t *times,
+                 uint32_t *cells, int16_t *changes)
+{
+    struct reader reader = {bytes, bytes + count};
+    struct header header;
+    if (read_header(&reader, &header))
+        return;
+    size_t sets = (size_t)header.seats * header.rounds;
+    for (size_t i = 0; i < sets; i++) {
+        uint32_t set;
+        if (read_number(&reader, &set))
+            return;
+        losses[i] = set;
+    }
+    for (size_t i = 0; i < header.edits; i++) {
+        struct edit edit;
+        if (read_edit(&reader, header, &edit))
+            return;
+        seats[i] = edit.seat;
+        times[i] = edit.time;
+        cells[i] = edit.cell;
+        changes[i] = edit.change;
+    }
+}
+
+uint8_t plain_read(const uint8_t *bytes, size_t bytes_count, uint16_t *losses, size_t losses_count, uint8_t *seats,
+                   size_t seats_count, uint16_t *times, size_t times_count, uint32_t *cells, size_t cells_count,
+                   int16_t *changes, size_t changes_count, uint16_t numbers[4])
+{
+    if (losses_count < RICECROCK_LOSS_SETS || seats_count < RICECROCK_EDITS || times_count < RICECROCK_EDITS ||
+        cells_count < RICECROCK_EDITS || changes_count < RICECROCK_EDITS)
+        return NO_ROOM;
+    struct header header;
+    enum refusal refusal = check(bytes, bytes_count, &header);
+    if (refusal)
+        return refusal;
+    fill(bytes, bytes_count, losses, seats, times, cells, changes);
+    numbers[0] = header.seats;
+    numbers[1] = header.bound;
+    numbers[2] = header.rounds;
+    numbers[3] = header.edits;
+    return ACCEPTED;
+}
+
+// ---- Writing ----
+
+static bool good_header(uint8_t seats, uint8_t bound, uint16_t rounds, size_t edits)
+{
+    return seats >= FEWEST_SEATS && seats <= MOST_SEATS && bound < seats && rounds <= MOST_ROUNDS &&
+           edits <= MOST_EDITS;
+}
+
+static bool lengths_fit(uint8_t seats, uint16_t rounds, const struct lists *lists)
+{
+    size_t edits = lists->editors_count;
+    return lists->losses_count == (size_t)seats * rounds && lists->times_count == edits &&
+           lists->cells_count == edits && lists->changes_count == edits;
+}
+
+static bool good_losses(uint8_t seats, const uint16_t *losses, size_t count)
+{
+    unsigned sender = 0;
+    for (size_t i = 0; i < count; i++) {
+        if (!good_set(seats, sender, losses[i]))
+            return false;
+        if (++sender == seats)
+            sender = 0;
+    }
+    return true;
+}
+
+static bool good_edit(uint8_t seats, uint16_t rounds, const struct edit *edit)
+{
+    return edit->seat < seats && edit->time <= rounds && edit->cell <= LARGEST_CELL;
+}
+
+static enum refusal judge_edits(uint8_t seats, uint16_t rounds, const struct lists *lists)
+{
+    struct edit before;
+    for (size_t i = 0; i < lists->editors_count; i++) {
+        struct edit edit = {lists->editors[i], lists->times[i], lists->cells[i], lists->changes[i]};
+        if (!good_edit(seats, rounds, &edit))
+            return OUT_OF_RANGE;
+        if (i > 0 && !rises(&before, &edit))
+            return BAD_ORDER;
+        before = edit;
+    }
+    return ACCEPTED;
+}
+
+static enum refusal judge(uint8_t seats, uint8_t bound, uint16_t rounds, const struct lists *lists)
+{
+    if (!good_header(seats, bound, rounds, lists->editors_count))
+        return OUT_OF_RANGE;
+    if (!lengths_fit(seats, rounds, lists))
+        return BAD_LENGTHS;
+    if (!good_losses(seats, lists->losses, lists->losses_count))
+        return BAD_LOSS_SET;
+    return judge_edits(seats, rounds, lists);
+}
+
+static size_t number_length(uint32_t value)
+{
+    return value < 128 ? 1 : value < 16384 ? 2 : 3;
+}
+
+// Every loss set, seat and time of accepted lists takes one byte.
+static size_t record_length(uint8_t seats, uint8_t bound, uint16_t rounds, const struct lists *lists)
+{
+    size_t edits = lists->editors_count;
+    size_t total = number_length(seats) + number_length(bound) + number_length(rounds) + number_length(edits);
+    total += lists->losses_count + 2 * edits;
+    for (size_t i = 0; i < edits; i++)
+        total += number_length(lists->cells[i]);
+    for (size_t i = 0; i < edits; i++)
+        total += number_length(map_change(lists->changes[i]));
+    return total;
+}
+
+// A header has at most five bytes and an edit at most eight.
+static bool has_room(size_t room, uint8_t seats, uint8_t bound, uint16_t rounds, const struct lists *lists)
+{
+    return 5 + lists->losses_count + 8 * lists->editors_count <= room ||
+           record_length(seats, bound, rounds, lists) <= room;
+}
+
+static uint8_t *put_number(uint8_t *out, uint32_t value)
+{
+    while (value >= 128) {
+        *out++ = 128 + value % 128;
+        value /= 128;
+    }
+    *out++ = value;
+    return out;
+}
+
+static uint8_t *put_record(uint8_t *out, uint8_t seats, uint8_t bound, uint16_t rounds, const struct lists *lists)
+{
+    out = put_number(out, seats);
+    out = put_number(out, bound);
+    out = put_number(out, rounds);
+    out = put_number(out, lists->editors_count);
+    for (size_t i = 0; i < lists->losses_count; i++)
+        out = put_number(out, lists->losses[i]);
+    for (size_t i = 0; i < lists->editors_count; i++) {
+        out = put_number(out, lists->editors[i]);
+        out = put_number(out, lists->times[i]);
+        out = put_number(out, lists->cells[i]);
+        out = put_number(out, map_change(lists->changes[i]));
+    }
+    return out;
+}
+
+uint8_t plain_write(uint8_t seats, uint8_t bound, uint16_t rounds, const uint16_t *losses, size_t losses_count,
+                    const uint8_t *editors, size_t editors_count, const uint16_t *times, size_t times_count,
+                    const uint32_t *cells, size_t cells_count, const int16_t *changes, size_t changes_count,
+                    uint8_t *out, size_t out_count, size_t *length)
+{
+    struct lists lists = {losses, losses_count, editors, editors_count, times,
+                          times_count, cells, cells_count, changes, changes_count};
+    enum refusal refusal = judge(seats, bound, rounds, &lists);
+    if (refusal)
+        return refusal;
+    if (!has_room(out_count, seats, bound, rounds, &lists))
+        return NO_ROOM;
+    *length = put_record(out, seats, bound, rounds, &lists) - out;
+    return ACCEPTED;
+}
+
+// ---- Views and the core ----
+
+// The farm that a question is asked of. A loss set stands at round * seats + sender, the first round at 0.
+struct farm {
+    unsigned seats;
+    unsigned bound;
+    const uint16_t *losses;
+};
+
+// For each seat one more than the latest time seen of it, 0 for none.
+struct view {
+    uint16_t of[MOST_SEATS];
+};
+
+struct views {
+    struct view of[MOST_SEATS];
+};
+
+static bool was_lost(const struct farm *farm, unsigned begun, unsigned sender, unsigned receiver)
+{
+    return farm->losses[begun * farm->seats + sender] >> receiver & 1;
+}
+
+static inline uint16_t larger(uint16_t a, uint16_t b)
+{
+    return a < b ? b : a;
+}
+
+static inline void join(struct view *view, const struct view *other, unsigned seats)
+{
+    for (unsigned q = 0; q < seats; q++)
+        view->of[q] = larger(view->of[q], other->of[q]);
+}
+
+// The views of all seats when the round that begins at the time is over.
+static void next_views(const struct farm *farm, const struct views *before, unsigned begun, struct views *next)
+{
+    for (unsigned p = 0; p < farm->seats; p++) {
+        next->of[p] = before->of[p];
+        for (unsigned s = 0; s < farm->seats; s++)
+            if (!was_lost(farm, begun, s, p))
+                join(&next->of[p], &before->of[s], farm->seats);
+        next->of[p].of[p] = begun + 2;
+    }
+}
+
+static struct views views_at(const struct farm *farm, unsigned time)
+{
+    struct views views = {0};
+    for (unsigned p = 0; p < farm->seats; p++)
+        views.of[p].of[p] = 1;
+    for (unsigned begun = 0; begun < time; begun++) {
+        struct views before = views;
+        next_views(farm, &before, begun, &views);
+    }
+    return views;
+}
+
+// Whether a send of a seat into a place of the view was lost.
+static bool missed_in(const struct farm *farm, const struct view *view, unsigned sender)
+{
+    for (unsigned q = 0; q < farm->seats; q++)
+        for (unsigned round = 1; round < view->of[q]; round++)
+            if (was_lost(farm, round - 1, sender, q))
+                return true;
+    return false;
+}
+
+static unsigned known_in(const struct farm *farm, const struct view *view)
+{
+    unsigned known = 0;
+    for (unsigned z = 0; z < farm->seats; z++)
+        if (missed_in(farm, view, z))
+            known |= 1u << z;
+    return known;
+}
+
+static unsigned size_of(unsigned set, unsigned seats)
+{
+    unsigned members = 0;
+    for (unsigned q = 0; q < seats; q++)
+        members += set >> q & 1;
+    return members;
+}
+
+struct settled {
+    unsigned steps;
+    int critical;
+    struct view core;
+};
+
+// The view of all seats outside the known set at a time, which may be below 0.
+static struct view view_outside(const struct farm *farm, unsigned known, int time)
+{
+    struct view view = {0};
+    if (time < 0)
+        return view;
+    struct views views = views_at(farm, time);
+    for (unsigned p = 0; p < farm->seats; p++)
+        if (!(known >> p & 1))
+            join(&view, &views.of[p], farm->seats);
+    return view;
+}
+
+// Each step is worked from the one before until a step brings no change.
+static enum refusal settle(const struct farm *farm, unsigned seat, unsigned time, struct settled *settled)
+{
+    struct views views = views_at(farm, time);
+    unsigned known = known_in(farm, &views.of[seat]);
+    if (size_of(known, farm->seats) > farm->bound)
+        return OVER_BOUND;
+    for (unsigned steps = 1;; steps++) {
+        int critical = (int)time - (int)(farm->bound + 1 - size_of(known, farm->seats));
+        struct view core = view_outside(farm, known, critical);
+        unsigned next = known_in(farm, &core);
+        if (next == known) {
+            *settled = (struct settled){steps, critical, core};
+            return ACCEPTED;
+        }
+        known = next;
+    }
+}
+
+uint8_t plain_core(const uint8_t *bytes, size_t bytes_count, uint8_t seat, uint16_t time, int16_t *out,
+                   size_t out_count)
+{
+    uint16_t losses[RICECROCK_LOSS_SETS];
+    uint8_t editors[RICECROCK_EDITS];
+    uint16_t times[RICECROCK_EDITS];
+    uint32_t cells[RICECROCK_EDITS];
+    int16_t changes[RICECROCK_EDITS];
+    struct header header;
+    enum refusal refusal = check(bytes, bytes_count, &header);
+    if (refusal)
+        return refusal;
+    fill(bytes, bytes_count, losses, editors, times, cells, changes);
+    struct farm farm = {header.seats, header.bound, losses};
+    if (seat >= farm.seats || time > header.rounds)
+        return NO_SUCH_PLACE;
+    if (out_count < farm.seats)
+        return NO_ROOM;
+    struct settled settled;
+    if ((refusal = settle(&farm, seat, time, &settled)))
+        return refusal;
+    for (unsigned q = 0; q < farm.seats; q++)
+        out[q] = settled.core.of[q] - 1;
+    return ACCEPTED;
+}
+
+// ---- The page ----
+
+static unsigned losers_by(const struct farm *farm, unsigned rounds)
+{
+    unsigned losers = 0;
+    for (unsigned z = 0; z < farm->seats; z++)
+        for (unsigned begun = 0; begun < rounds; begun++)
+            if (farm->losses[begun * farm->seats + z]) {
+                losers |= 1u << z;
+                break;
+            }
+    return losers;
+}
+
+static uint8_t *put_word(uint8_t *out, const char *word)
+{
+    while (*word)
+        *out++ = *word++;
+    return out;
+}
+
+static uint8_t *put_decimal(uint8_t *out, unsigned value)
+{
+    if (value >= 10)
+        out = put_decimal(out, value / 10);
+    *out++ = '0' + value % 10;
+    return out;
+}
+
+static uint8_t *put_signed(uint8_t *out, int value)
+{
+    if (value < 0) {
+        *out++ = '-';
+        value = -value;
+    }
+    return put_decimal(out, value);
+}
+
+static uint8_t *put_header_line(uint8_t *out, struct header header)
+{
+    out = put_decimal(put_word(out, "seats "), header.seats);
+    out = put_decimal(put_word(out, " bound "), header.bound);
+    out = put_decimal(put_word(out, " rounds "), header.rounds);
+    out = put_decimal(put_word(out, " edits "), header.edits);
+    return put_word(out, "\n");
+}
+
+static unsigned count_edits(const struct view *core, const uint8_t *editors, const uint16_t *times, unsigned edits)
+{
+    unsigned count = 0;
+    for (unsigned i = 0; i < edits; i++)
+        if (times[i] < core->of[editors[i]])
+            count++;
+    return count;
+}
+
+static uint8_t *put_place_line(uint8_t *out, const struct farm *farm, bool loser, unsigned time, unsigned seat,
+                               const uint8_t *editors, const uint16_t *times, unsigned edits)
+{
+    out = put_word(put_decimal(out, time), " ");
+    out = put_word(put_decimal(out, seat), loser ? " L" : " C");
+    struct settled settled;
+    if (settle(farm, seat, time, &settled))
+        return put_word(out, " over\n");
+    out = put_signed(put_word(out, " "), settled.critical);
+    out = put_decimal(put_word(out, " "), settled.steps);
+    for (unsigned q = 0; q < farm->seats; q++)
+        out = put_signed(put_word(out, " "), settled.core.of[q] - 1);
+    out = put_decimal(put_word(out, " "), count_edits(&settled.core, editors, times, edits));
+    return put_word(out, "\n");
+}
+
+uint8_t plain_page(const uint8_t *bytes, size_t bytes_count, uint8_t *out, size_t out_count, size_t *length)
+{
+    if (out_count < RICECROCK_PAGE)
+        return NO_ROOM;
+    uint16_t losses[RICECROCK_LOSS_SETS];
+    uint8_t editors[RICECROCK_EDITS];
+    uint16_t times[RICECROCK_EDITS];
+    uint32_t cells[RICECROCK_EDITS];
+    int16_t changes[RICECROCK_EDITS];
+    struct header header;
+    enum refusal refusal = check(bytes, bytes_count, &header);
+    if (refusal) {
+        *length = put_word(put_decimal(put_word(out, "refused "), refusal), "\n") - out;
+        return ACCEPTED;
+    }
+    fill(bytes, bytes_count, losses, editors, times, cells, changes);
+    struct farm farm = {header.seats, header.bound, losses};
+    unsigned losers = losers_by(&farm, header.rounds);
+    uint8_t *end = put_header_line(out, header);
+    for (unsigned time = 0; time <= header.rounds; time++)
+        for (unsigned seat = 0; seat < header.seats; seat++)
+            end = put_place_line(end, &farm, losers >> seat & 1, time, seat, editors, times, header.edits);
+    *length = end - out;
+    return ACCEPTED;
+}
+
+// ---- The live table ----
+
+static bool good_table(const struct ricecrock_table *table)
+{
+    if (table->seats > MOST_SEATS || table->rounds > MOST_ROUNDS || table->edits > MOST_EDITS)
+        return false;
+    size_t edits = table->edits;
+    struct lists lists = {table->losses, (size_t)table->seats * table->rounds, table->editors, edits, table->times,
+                          edits, table->cells, edits, table->changes, edits};
+    return judge(table->seats, table->bound, table->rounds, &lists) == ACCEPTED;
+}
+
+uint8_t plain_open(struct ricecrock_table *table, uint8_t seats, uint8_t bound)
+{
+    if (!good_header(seats, bound, 0, 0))
+        return OUT_OF_RANGE;
+    table->seats = seats;
+    table->bound = bound;
+    table->rounds = 0;
+    table->edits = 0;
+    return ACCEPTED;
+}
+
+uint8_t plain_add_round(struct ricecrock_table *table, const uint16_t *sets, size_t sets_count)
+{
+    if (!good_table(table))
+        return BAD_TABLE;
+    if (table->rounds >= MOST_ROUNDS)
+        return ROUNDS_FULL;
+    if (sets_count != table->seats)
+        return BAD_LENGTHS;
+    if (!good_losses(table->seats, sets, sets_count))
+        return BAD_LOSS_SET;
+    memcpy(&table->losses[table->seats * table->rounds], sets, sets_count * sizeof *sets);
+    table->rounds++;
+    return ACCEPTED;
+}

@@ -1,0 +1,39 @@
+// Each call on the live table as a step by value, with a number as its answer: what an exported function can
+// hand out is a number, and the function on `&mut Table` has no branch to make one.
+use crate::codes::done_number;
+use live::steps::opened;
+use live::steps::with_round;
+use live::table::Table;
+ghost use mathlib.Core.Path.{_≡_};
+ghost use Rattle.live.specs.Calls.{opening, round, answerTo, tableAfter};
+ghost use Rattle.live.specs.Answers.{doneOf};
+ghost use Rattle.bindings.specs.Codes.{doneNumber};
+
+pub struct Coded {
+    pub code: u8,
+    pub table: Table,
+}
+
+pub fn coded_opening(table: Table, seats: u8, bound: u8) -> Coded
+    ensures { λ r. ⌜ (r .code ≡ doneNumber (doneOf (answerTo (opening seats bound) table))) × (r .table ≡ tableAfter (opening seats bound) table) ⌝ }
+{
+    let step = opened(table, seats, bound);
+    let answer = step.answer;
+    let after = step.table;
+    Coded {
+        code: done_number(answer),
+        table: after,
+    }
+}
+
+pub fn coded_round(table: Table, sets: &[u16]) -> Coded
+    ensures { λ r. ⌜ (r .code ≡ doneNumber (doneOf (answerTo (round (now (sets .entry))) table))) × (r .table ≡ tableAfter (round (now (sets .entry))) table) ⌝ }
+{
+    let step = with_round(table, sets);
+    let answer = step.answer;
+    let after = step.table;
+    Coded {
+        code: done_number(answer),
+        table: after,
+    }
+}

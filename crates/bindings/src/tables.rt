@@ -1,0 +1,29 @@
+// The calls on the live table, for a host in C, which keeps the table in its own memory. Each is thin: how they
+// are proved is in docs/WALKS.md.
+use crate::coded::coded_opening;
+use crate::coded::coded_round;
+use live::table::Table;
+ghost use mathlib.Core.Path.{_≡_};
+ghost use Rattle.live.specs.Calls.{opening, round, answerTo, tableAfter};
+ghost use Rattle.live.specs.Answers.{doneOf};
+ghost use Rattle.bindings.specs.Codes.{doneNumber};
+
+// Opens a table in any state for a new record: 3.
+#[no_mangle]
+pub extern "C" fn ricecrock_open(table: &mut Table, seats: u8, bound: u8) -> u8
+    ensures { λ r. ⌜ (r ≡ doneNumber (doneOf (answerTo (opening seats bound) (now (table .entry))))) × (now (table .exit) ≡ tableAfter (opening seats bound) (now (table .entry))) ⌝ }
+{
+    let step = coded_opening(*table, seats, bound);
+    *table = step.table;
+    step.code
+}
+
+// Adds a round, a loss set for each sender: 19, 11, 10, 4.
+#[no_mangle]
+pub extern "C" fn ricecrock_add_round(table: &mut Table, sets: &[u16]) -> u8
+    ensures { λ r. ⌜ (r ≡ doneNumber (doneOf (answerTo (round (now (sets .entry))) (now (table .entry))))) × (now (table .exit) ≡ tableAfter (round (now (sets .entry))) (now (table .entry))) ⌝ }
+{
+    let step = coded_round(*table, sets);
+    *table = step.table;
+    step.code
+}
