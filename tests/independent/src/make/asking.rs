@@ -36,9 +36,13 @@ impl Composer<'_> {
     /// The record so far shows whether a round or an edit went in as it should.
     pub fn ask_for_record_now_and_then(&mut self) {
         if self.random.chance(150) {
-            let room = self.record_room();
-            self.put(Call::Record { room });
+            self.ask_for_record();
         }
+    }
+
+    pub fn ask_for_record(&mut self) {
+        let room = self.record_room();
+        self.put(Call::Record { room });
     }
 
     fn any_place(&mut self) -> (u8, u16) {

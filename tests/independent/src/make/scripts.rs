@@ -14,8 +14,9 @@ pub fn script(random: &mut Random) -> Script {
         0 => composer.fill_rounds(),
         1 => composer.fill_edits(),
         2 => composer.fill_everything(),
-        3 | 4 => composer.never_open(),
-        5..=9 => composer.scribble(),
+        3 => composer.pass_limits(),
+        4 | 5 => composer.never_open(),
+        6..=10 => composer.scribble(),
         _ => composer.mix(),
     };
     composer.put(Call::Table);
@@ -124,6 +125,29 @@ impl Composer<'_> {
         self.put_four_edits();
         self.after_filling();
         "all 127 rounds and 512 edits"
+    }
+
+    /// Counts altered to their limits and past them, over entries that are all
+    /// good, so that only the count itself can give 19.
+    fn pass_limits(&mut self) -> &'static str {
+        self.put(Call::Open { seats: 7, bound: 6 });
+        while self.table.edits < 512 {
+            self.put_rising_edit();
+        }
+        while self.table.rounds < 127 {
+            self.put(Call::Round { sets: vec![0; 7] });
+        }
+        self.open();
+        let seats = u32::from(self.seats());
+        let rounds = [127, 128, 129, 889 / seats, 889 / seats + 1, 126].map(|value| (2, value));
+        let edits = [512, 513, 65_535, 511].map(|value| (3, value));
+        let others = [(1, seats), (1, seats - 1), (0, 8), (0, seats)];
+        for &(field, value) in rounds.iter().chain(&edits).chain(&others) {
+            self.put(Call::Alter { field, index: 0, value });
+            self.ask();
+            self.ask_for_record();
+        }
+        "counts at their limits and past them"
     }
 
     fn put_four_edits(&mut self) {
