@@ -1,4 +1,5 @@
 pub mod ListLaws
+pub mod AskLaws
 pub mod GoodSteps
 pub mod RunLaws
 pub mod StepLaws

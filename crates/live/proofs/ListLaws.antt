@@ -7,7 +7,7 @@ use native.Mathlib.Nat.{suc-ne-zero}
 use native.Mathlib.Numerals.{add-one}
 use native.Mathlib.Omega.{arith}
 use lib.IntN.{ℤ}
-use lib.ListN.{length, take, drop, getD, set, length-append, drop-of-length-le}
+use lib.ListN.{length, take, drop, getD, set, length-append, length-take, drop-of-length-le}
 use lib.Seq.{take-at, drop-cons}
 use Rattle.record.specs.Tables.{over, editOf, editsFrom}
 use Rattle.record.proofs.TableLaws.{over-none, over-first}
@@ -37,13 +37,13 @@ edits-from-append (x ∷ seats) (y ∷ times) (z ∷ cells) (w ∷ changes) s t 
     ap (_∷_ (editOf x y z w)) (edits-from-append seats times cells changes s t c d (omega arith) (omega arith) (omega arith))
 
 -- The four lists have at least as many entries as there are edits.
-pub record Covered (count : ℕ) (a b c : List ℕ) (d : List ℤ) : Type 0 where
+record Covered (count : ℕ) (a b c : List ℕ) (d : List ℤ) : Type 0 where
   pub seats : count ≤ length a
   pub times : count ≤ length b
   pub cells : count ≤ length c
   pub changes : count ≤ length d
 
-pub edits-from-covered : (seats times cells : List ℕ) (changes : List ℤ)
+edits-from-covered : (seats times cells : List ℕ) (changes : List ℤ)
     → Covered (length (editsFrom seats times cells changes)) seats times cells changes
 unfolding editsFrom
 edits-from-covered [] times cells changes = omega arith
@@ -52,6 +52,22 @@ edits-from-covered (x ∷ seats) (y ∷ times) [] changes = omega arith
 edits-from-covered (x ∷ seats) (y ∷ times) (z ∷ cells) [] = omega arith
 edits-from-covered (x ∷ seats) (y ∷ times) (z ∷ cells) (w ∷ changes) =
     let rest = edits-from-covered seats times cells changes in omega arith
+
+-- Lists that are cut to so many entries, and hold so many edits, are that long.
+pub record Full (count : ℕ) (a b c : List ℕ) (d : List ℤ) : Type 0 where
+  pub seats : length a ≡ count
+  pub times : length b ≡ count
+  pub cells : length c ≡ count
+  pub changes : length d ≡ count
+
+pub cut-full : (E : ℕ) (a b c : List ℕ) (d : List ℤ) → length (editsFrom (take E a) (take E b) (take E c) (take E d)) ≡ E
+    → Full E (take E a) (take E b) (take E c) (take E d)
+cut-full E a b c d h =
+    let k = edits-from-covered (take E a) (take E b) (take E c) (take E d) in
+    record { seats = whole a (omega arith); times = whole b (omega arith); cells = whole c (omega arith); changes = whole d (omega arith) }
+  where
+    whole : {A : Type 0} (l : List A) → E ≤ length (take E l) → length (take E l) ≡ E
+    whole l g = let e = length-take E l in omega arith
 
 -- ════ A loop that puts entries over a list ════
 

@@ -18,10 +18,9 @@ use Rattle.live.specs.declared.table.Table.{Table}
 use Rattle.live.specs.Answers.{doneOf}
 use Rattle.live.specs.Calls.{added, keptOr, answerTo, tableAfter}
 use Rattle.live.specs.Used.{usedRecord, tableReading}
-use Rattle.live.specs.Promises.{Table-refused-exactly-when-not-good, Table-passes-exactly-when-it-reads-back, Good-table-answers-as-its-record, Refused-call-leaves-the-table, Run-keeps-the-record, Run-answers-as-the-record}
+use Rattle.live.specs.Promises.{Table-refused-exactly-when-not-good, Table-passes-exactly-when-it-reads-back, Good-table-answers-as-its-record, Refused-call-leaves-the-table, Calls-have-a-run, Run-keeps-the-record, Run-answers-as-the-record}
 use Rattle.live.proofs.RunLaws as runs
-use Rattle.live.proofs.RunLaws.{reading-good}
-use Rattle.live.proofs.StepLaws.{reads-bad}
+use Rattle.live.proofs.AskLaws.{reading-good, reads-bad}
 
 -- ════ Refusal 19 ════
 
@@ -59,6 +58,9 @@ refused-call-leaves-the-table call before refusal after (said, left) = left ∙ 
     by : (v : Verdict) → Refused refusal ≡ doneOf v → keptOr v before (added call before) ≡ before
     by accepted e = let z : _≡_ {A = ℕ} 0 1 = cc in absurd (omega arith)
     by (faulty other) e = refl
+
+pub calls-have-a-run : Calls-have-a-run
+calls-have-a-run = runs.calls-have-a-run
 
 pub run-keeps-the-record : Run-keeps-the-record
 run-keeps-the-record = runs.run-keeps-the-record

@@ -3,29 +3,30 @@
 use mathlib.Core.Path.{_≡_, refl, sym, _∙_, ap}
 use mathlib.Core.Bool.{true}
 use mathlib.Core.List.{List, [], _∷_, _++_}
-use Prim.Native.Nat.{ℕ, _+_, _*_, _≤_}
+use Prim.Native.Nat.{ℕ, _+_, _*_}
 use native.Mathlib.Nat.{mul-zero}
 use native.Mathlib.Omega.{arith}
 use lib.Dec.{eqb}
 use lib.IntN.{ℤ}
-use lib.ListN.{length, take, length-take}
+use lib.ListN.{length, take}
 use borrow.Author.Tests.{eqb-true}
 use Rattle.farm.specs.Limits.{limits}
 use Rattle.farm.specs.Sets.{Seats}
 use Rattle.farm.specs.declared.places.Seat.{Seat}
 use Rattle.record.specs.Good.{goodRecord}
-use Rattle.record.specs.Record.{Record, good}
+use Rattle.record.specs.Record.{Record}
 use Rattle.record.specs.Tables.{editsFrom}
 use Rattle.record.specs.Writing.{Verdict, accepted, faulty}
 use Rattle.record.proofs.GoodLaws.{record-facts}
 use Rattle.live.specs.declared.answers.Done.{Done}
 use Rattle.live.specs.declared.table.Table.{Table}
-use Rattle.live.specs.Used.{usedRecord, tableReading}
+use Rattle.live.specs.Used.{usedRecord}
 use Rattle.live.specs.Calls.{Call, opening, round, edit, openedRecord, withRound, withEdit, presentEdit, testsOf, openedTable, tableWithRound, tableWithEdit, added, keptOr, answerTo, tableAfter}
 use Rattle.live.specs.Answers.{doneOf, Ends}
 use Rattle.live.specs.Runs.{Run, stop, step, Told, nothing, told, recorded, recordedIf, recordOfAll}
-use Rattle.live.specs.Promises.{Run-keeps-the-record}
-use Rattle.live.proofs.ListLaws.{used-over, edits-from-append, Covered, edits-from-covered}
+use Rattle.live.specs.Promises.{Calls-have-a-run, Run-keeps-the-record}
+use Rattle.live.proofs.ListLaws.{used-over, edits-from-append, cut-full}
+use Rattle.live.proofs.AskLaws.{reading-good}
 use Rattle.live.proofs.GoodSteps.{AllPass, all-pass, opened-good, round-good, edit-good}
 
 -- ════ Used parts ════
@@ -47,43 +48,22 @@ used-with-round sets table (a, (b, (c, (d, none)))) =
     = used-over (table .seats * table .rounds) (table .seats * (table .rounds + 1)) sets (table .losses) (f .lossCount) (omega arith) in
     rw losses
 
-take-full : {A : Type 0} (n : ℕ) (l : List A) → n ≤ length (take n l) → length (take n l) ≡ n
-take-full n l h = let e = length-take n l in omega arith
-
 pub used-with-edit : (seat : Seat) (cell : ℕ) (change : ℤ) (table : Table) → AllPass (testsOf (edit seat cell change) (usedRecord table))
     → usedRecord (tableWithEdit seat cell change table)
     ≡ withEdit (presentEdit seat cell change (usedRecord table)) (usedRecord table)
 unfolding usedRecord testsOf
 used-with-edit seat cell change table (a, (b, (c, (d, none)))) =
+    let whole : goodRecord limits (usedRecord table) ≡ true = cc in
+    let E = table .edits in
+    let full = cut-full E (table .editors) (table .times) (table .cells) (table .changes) (record-facts limits (usedRecord table) whole .editCount) in
     rw (
-      used-over E (E + 1) (seat .0 ∷ []) (table .editors) seats refl,
-      used-over E (E + 1) (table .rounds ∷ []) (table .times) times refl,
-      used-over E (E + 1) (cell ∷ []) (table .cells) cells refl,
-      used-over E (E + 1) (change ∷ []) (table .changes) changes refl,
+      used-over E (E + 1) (seat .0 ∷ []) (table .editors) (full .seats) refl,
+      used-over E (E + 1) (table .rounds ∷ []) (table .times) (full .times) refl,
+      used-over E (E + 1) (cell ∷ []) (table .cells) (full .cells) refl,
+      used-over E (E + 1) (change ∷ []) (table .changes) (full .changes) refl,
       edits-from-append (take E (table .editors)) (take E (table .times)) (take E (table .cells)) (take E (table .changes)) (seat .0)
-          (table .rounds) cell change (times ∙ sym seats) (cells ∙ sym seats) (changes ∙ sym seats),
+          (table .rounds) cell change (full .times ∙ sym (full .seats)) (full .cells ∙ sym (full .seats)) (full .changes ∙ sym (full .seats)),
     )
-  where
-    E : ℕ
-    E = table .edits
-
-    whole : goodRecord limits (usedRecord table) ≡ true
-    whole = cc
-
-    covered : Covered E (take E (table .editors)) (take E (table .times)) (take E (table .cells)) (take E (table .changes))
-    covered = rw (record-facts limits (usedRecord table) whole .editCount) at (edits-from-covered (take E (table .editors)) (take E (table .times)) (take E (table .cells)) (take E (table .changes)))
-
-    seats : length (take E (table .editors)) ≡ E
-    seats = take-full E (table .editors) (covered .seats)
-
-    times : length (take E (table .times)) ≡ E
-    times = take-full E (table .times) (covered .times)
-
-    cells : length (take E (table .cells)) ≡ E
-    cells = take-full E (table .cells) (covered .cells)
-
-    changes : length (take E (table .changes)) ≡ E
-    changes = take-full E (table .changes) (covered .changes)
 
 -- ════ One call ════
 
@@ -91,11 +71,6 @@ used-with-edit seat cell change table (a, (b, (c, (d, none)))) =
 abbrev Keeps : Told → Table → Type 0
 Keeps nothing table = Unit {0}
 Keeps (told r) table = (usedRecord table ≡ r) × (goodRecord limits r ≡ true)
-
--- A good used part is what the table reads as.
-pub reading-good : (table : Table) → goodRecord limits (usedRecord table) ≡ true → tableReading table ≡ good (usedRecord table)
-unfolding tableReading
-reading-good table h = rw h
 
 accepted-keeps : (call : Call) (table : Table) (before : Told) → Keeps before table → AllPass (testsOf call (usedRecord table))
     → Keeps (recorded call before) (added call table)
@@ -122,6 +97,15 @@ call-keeps call table answer after before (said, left) k = rw (said, left) (by (
     by (faulty refusal) e = k
 
 -- ════ Any run ════
+
+pub calls-have-a-run : Calls-have-a-run
+calls-have-a-run [] table = ([], table, stop table)
+calls-have-a-run (call ∷ calls) table =
+    let next = calls-have-a-run calls (tableAfter call table) in (
+      doneOf (answerTo call table) ∷ next .0,
+      next .1,
+      step call calls table (doneOf (answerTo call table)) (tableAfter call table) (next .0) (next .1) (refl, refl) (next .2),
+    )
 
 run-keeps : (calls : List Call) (table : Table) (answers : List Done) (after : Table) (before : Told) → Run calls table answers after
     → Keeps before table → Keeps (recordOfAll calls answers before) after

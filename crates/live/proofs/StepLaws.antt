@@ -1,6 +1,6 @@
 -- What each test of the code on a table decides: one law for each way that a call ends.
 -- Assumes nothing.
-use mathlib.Core.Path.{_≡_, refl, sym, _∙_, ap, ap₂, subst}
+use mathlib.Core.Path.{_≡_, refl, sym, _∙_, subst}
 use mathlib.Core.Bool.{Bool, true, false, _&&_}
 use mathlib.Core.List.{List, [], _∷_, _++_}
 use Prim.Native.Nat.{ℕ, zero, suc, _+_, _-_, _*_, _^_, _≤_, _<_}
@@ -8,7 +8,7 @@ use native.Mathlib.Nat.{mul-le-mul}
 use native.Mathlib.Omega.{arith}
 use lib.Dec.{eqb}
 use lib.IntN.{ℤ, pos, negsuc}
-use lib.ListN.{length, take, getD, set, length-take}
+use lib.ListN.{length, take, getD, set}
 use lib.Seq.{length-take-le, take-suc}
 use mir.Syntax.{w16}
 use mir.Val.{SFits}
@@ -16,10 +16,9 @@ use borrow.Author.Tests.{le-ltb, lt-ltb}
 use Rattle.farm.specs.Limits.{limits}
 use Rattle.farm.specs.Sets.{Seats}
 use Rattle.farm.specs.declared.places.Seat.{Seat}
-use Rattle.farm.specs.declared.places.Time.{Time}
 use Rattle.farm.specs.declared.refusals.Refusal.{Refusal}
 use Rattle.farm.specs.declared.refusals.Refusal.the-variants.{OutOfRange, BadOrder, RoundsFull, EditsFull, BadTable}
-use Rattle.record.specs.Answers.{listsOf, writtenIn}
+use Rattle.record.specs.Answers.{listsOf}
 use Rattle.record.specs.Changes.{mapped}
 use Rattle.record.specs.Columns.{tablesOf}
 use Rattle.record.specs.Edits.{follows}
@@ -27,31 +26,21 @@ use Rattle.record.specs.Faults.{lastOf}
 use Rattle.record.specs.Good.{goodHeader, goodEdit, goodRecord}
 use Rattle.record.specs.Record.{Record, good, bad}
 use Rattle.record.specs.Tables.{Tables, over, editOf, editsFrom}
-use Rattle.record.specs.Writing.{accepted, faulty, unless, headerFrom, fitting, judgedEdits, recordFrom, judgedLists, judged, checkedLists, answered, writtenTo, bufferWith, bufferAfter}
-use Rattle.record.specs.declared.writing.Written.{Written}
-use Rattle.record.specs.declared.writing.Written.the-variants.{Refused as NotWritten}
+use Rattle.record.specs.Writing.{accepted, faulty, unless, headerFrom, fitting, judgedEdits, recordFrom, judgedLists, judged, checkedLists}
 use Rattle.record.specs.declared.edits.Before.{Before}
 use Rattle.record.specs.declared.edits.Before.the-variants.{Nothing, This}
 use Rattle.record.specs.declared.edits.Edit.{Edit}
 use Rattle.record.proofs.AcceptedLaws.{checked-good}
-use Rattle.record.proofs.ColumnLaws.{Columns, columns-from-edits}
+use Rattle.record.proofs.ColumnLaws.{columns-from-edits}
 use Rattle.record.proofs.GoodLaws.{header-facts, header-from-facts, edit-facts, edit-from-facts, record-facts}
 use Rattle.record.proofs.WritingLaws.{lists-accepted, good-lists-accepted}
-use Rattle.questions.specs.Accepted.{Accepted as Accepts, marksOn, countOn}
-use Rattle.questions.specs.Marks.{marksIn, countIn}
-use Rattle.questions.proofs.MarkLaws.{marks-of-edits, count-of-edits}
-use Rattle.questions.specs.Answers.{givenAnswer, into}
-use Rattle.questions.specs.declared.answers.Given.{Given}
-use Rattle.questions.specs.declared.answers.Given.the-variants as Given′
-use Rattle.questions.specs.Question.{Asked, found, refused, onRecord, looking, Lent, byValue, settledIn, farmOfRecord, marksOf, countOf}
-use Rattle.live.specs.declared.answers.Done.the-variants.{Accepted, Refused}
+use Rattle.live.specs.declared.answers.Done.the-variants.{Accepted}
 use Rattle.live.specs.declared.answers.Step.{Step}
 use Rattle.live.specs.declared.table.Table.{Table}
 use Rattle.live.specs.Answers.{doneOf, refusing, Ends}
 use Rattle.live.specs.Calls.{Call, opening, round, edit, emptyHeader, presentEdit, round11, round10, round4, edit3, edit12, edit5, testsOf, firstFailing, Held, added, keptOr, answerTo, tableAfter}
-use Rattle.live.specs.Used.{ArraysLong, tableOf, usedRecord, tableReading}
-use Rattle.live.proofs.ListLaws.{edits-from-append, over-one, Covered, edits-from-covered}
-use Rattle.live.proofs.RunLaws.{reading-good}
+use Rattle.live.specs.Used.{ArraysLong, tableOf, usedRecord}
+use Rattle.live.proofs.ListLaws.{edits-from-append, over-one}
 
 -- ════ Refusal 19 ════
 
@@ -132,11 +121,6 @@ module _ (losses : List Seats) (editors times cells : List ℕ) (changes : List 
 -- The loss sets of the most rounds and seats fit the array.
 pub sets-fit : (n R : ℕ) → n ≤ 7 → R ≤ 127 → n * R ≤ 889
 sets-fit n R a b = mul-le-mul a b
-
--- What a table reads as, by what the test of its used part found.
-pub reads-bad : (table : Table) → goodRecord limits (usedRecord table) ≡ false → tableReading table ≡ bad BadTable
-unfolding tableReading
-reads-bad table h = rw h
 
 -- ════ An opening ════
 
@@ -302,109 +286,6 @@ edit-table seat cell change table put e h =
       over-one (table .edits) cell (table .cells) (omega arith),
       over-one (table .edits) change (table .changes) (omega arith),
     )
-
--- ════ Questions ════
-
-module _ (table : Table) where
-  pub asked-bad : {A : Type 0} (ask : Record → Asked A) → goodRecord limits (usedRecord table) ≡ false → onRecord (tableReading table) ask ≡ refused BadTable
-  unfolding onRecord
-  asked-bad ask h = rw (reads-bad table h)
-
-  pub asked-good : {A : Type 0} (ask : Record → Asked A) → goodRecord limits (usedRecord table) ≡ true → onRecord (tableReading table) ask ≡ ask (usedRecord table)
-  unfolding onRecord
-  asked-good ask h = rw (reading-good table h)
-
--- The same of a lent buffer.
-pub bad-buffer : {A : Type 0} (asked : Asked (List A)) (old : List A) → asked ≡ refused BadTable
-    → (Given′.Refused BadTable ≡ givenAnswer asked) × (old ≡ into asked old)
-bad-buffer asked old e = rw e (refl, refl)
-
-pub same-buffer : {A : Type 0} (asked on : Asked (List A)) (old new : List A) (answer : Given) → asked ≡ on
-    → (answer ≡ givenAnswer on) × (new ≡ into on old) → (answer ≡ givenAnswer asked) × (new ≡ into asked old)
-same-buffer asked on old new answer e f = rw e f
-
-module _ (table : Table) where
-  -- What the questions ask of an accepted record's numbers.
-  pub accepted-sizes : goodRecord limits (usedRecord table) ≡ true → Accepts (record { seats = table .seats; bound = table .bound; rounds = table .rounds })
-  unfolding usedRecord
-  accepted-sizes g =
-      let f = header-facts limits _ (record-facts limits (usedRecord table) g .header) in
-      record { seats = f .most; bound = omega arith; rounds = f .rounds }
-
-looking-same : {A B : Type 0} (f g : A → B) → ((a : A) → f a ≡ g a) → (asked : Asked A) → looking f asked ≡ looking g asked
-unfolding looking
-looking-same f g h (found a) = ap found (h a)
-looking-same f g h (refused r) = refl
-
--- The edits of a good used part, and the lists that they stand in.
-module _ (table : Table) (g : goodRecord limits (usedRecord table) ≡ true) where
-  abbrev E : ℕ
-  E = table .edits
-
-  whole : {A : Type 0} (l : List A) → E ≤ length (take E l) → length (take E l) ≡ E
-  whole l h = let e = length-take E l in omega arith
-
-  covered : Covered E (take E (table .editors)) (take E (table .times)) (take E (table .cells)) (take E (table .changes))
-  unfolding usedRecord
-  covered = rw (record-facts limits (usedRecord table) g .editCount) at (edits-from-covered (take E (table .editors)) (take E (table .times)) (take E (table .cells)) (take E (table .changes)))
-
-  columns : Columns (take E (table .editors)) (take E (table .times)) (take E (table .cells)) (take E (table .changes)) (usedRecord table .edits)
-  unfolding usedRecord
-  columns =
-      let s = whole (table .editors) (covered .seats) in
-      columns-from-edits (take E (table .editors)) (take E (table .times)) (take E (table .cells)) (take E (table .changes))
-      (whole (table .times) (covered .times) ∙ sym s) (whole (table .cells) (covered .cells) ∙ sym s) (whole (table .changes) (covered .changes) ∙ sym s)
-
-  pub few-edits : E ≤ 512
-  unfolding usedRecord
-  few-edits = header-facts limits _ (record-facts limits (usedRecord table) g .header) .edits
-
-  pub used-count : (p : Seat) (ℓ : Time)
-      → looking (λ s. countOf (s .core) (usedRecord table .edits)) (settledIn byValue 0 (farmOfRecord (usedRecord table)) p ℓ)
-      ≡ countOn (farmOfRecord (usedRecord table)) (take E (table .editors)) (take E (table .times)) p ℓ
-  unfolding countOn
-  used-count p ℓ = looking-same _ _ (λ s. count-of-edits (s .core) (usedRecord table .edits) ∙ ap₂ (countIn (s .core)) (columns .seats-same) (columns .times-same)) _
-
-  pub used-marks : (room : Lent) (p : Seat) (ℓ : Time)
-      → looking (λ s. marksOf (s .core) (usedRecord table .edits)) (settledIn room (length (usedRecord table .edits)) (farmOfRecord (usedRecord table)) p ℓ)
-      ≡ marksOn room (farmOfRecord (usedRecord table)) (take E (table .editors)) (take E (table .times)) p ℓ
-  unfolding marksOn
-  used-marks room p ℓ =
-      rw (columns .count)
-      (looking-same _ _ (λ s. marks-of-edits (s .core) (usedRecord table .edits) ∙ ap₂ (marksIn (s .core)) (columns .seats-same) (columns .times-same)) _)
-
-  -- The lists of the used part are accepted as the record that it is.
-  pub used-lists : tableReading table
-      ≡ checkedLists limits (table .seats) (table .bound) (table .rounds) (listsOf (take (table .seats * table .rounds) (table .losses)) (take E (table .editors)) (take E (table .times)) (take E (table .cells)) (take E (table .changes)))
-  unfolding usedRecord tablesOf
-  used-lists =
-      let c = columns in
-      let same : tablesOf (usedRecord table) ≡ listsOf (take (table .seats * table .rounds) (table .losses)) (take E (table .editors)) (take E (table .times)) (take E (table .cells)) (take E (table .changes))
-      = λ i. record {
-        losses = take (table .seats * table .rounds) (table .losses);
-        seats = c .seats-same i;
-        times = c .times-same i;
-        cells = c .cells-same i;
-        changes = c .changes-same i;
-      } in
-      reading-good table g ∙ sym (rw same at (good-lists-accepted limits (usedRecord table) g))
-
--- ════ The record, written out ════
-
-module _ (table : Table) where
-  pub bad-write : (old : List ℕ) → goodRecord limits (usedRecord table) ≡ false
-      → (NotWritten BadTable ≡ writtenIn (answered limits (tableReading table) (length old))) × (old ≡ bufferWith limits (tableReading table) old)
-  unfolding writtenIn answered bufferWith
-  bad-write old h = rw (reads-bad table h) (refl, refl)
-
-  abbrev its-lists : Tables
-  its-lists = listsOf (take (table .seats * table .rounds) (table .losses)) (take (table .edits) (table .editors)) (take (table .edits) (table .times)) (take (table .edits) (table .cells)) (take (table .edits) (table .changes))
-
-  pub good-write : goodRecord limits (usedRecord table) ≡ true → (old new : List ℕ) (answer : Written)
-      → (answer ≡ writtenIn (writtenTo limits (table .seats) (table .bound) (table .rounds) its-lists (length old))) × (new ≡ bufferAfter limits (table .seats) (table .bound) (table .rounds) its-lists old)
-      → (answer ≡ writtenIn (answered limits (tableReading table) (length old))) × (new ≡ bufferWith limits (tableReading table) old)
-  unfolding writtenTo bufferAfter
-  good-write g old new answer e = rw (used-lists table g) e
 
 -- ════ What a step hands back ════
 

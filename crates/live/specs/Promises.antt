@@ -46,6 +46,10 @@ abbrev pub Refused-call-leaves-the-table : Type 0
 Refused-call-leaves-the-table =
     (call : Call) (before : Table) (refusal : Refusal) (after : Table) → Ends call before (Refused refusal) after → after ≡ before
 
+-- Every list of calls has a run from a table in any state.
+abbrev pub Calls-have-a-run : Type 0
+Calls-have-a-run = (calls : List Call) (before : Table) → (answers : List Done) × (after : Table) × Run calls before answers after
+
 -- The law of any run: whatever calls are made, on a table in any state, once an opening was accepted the table reads as the record of
 -- the calls accepted since the last accepted opening.
 abbrev pub Run-keeps-the-record : Type 0

@@ -10,7 +10,7 @@ use Rattle.questions.specs.Accepted.{coreIn}
 use Rattle.questions.specs.Answers.{timesAnswer}
 use Rattle.questions.specs.Question.{farmOfRecord, looking, settledIn, byValue}
 use Rattle.live.specs.Used.{tableOf, usedRecord}
-use Rattle.live.proofs.StepLaws.{asked-bad, asked-good, accepted-sizes}
+use Rattle.live.proofs.AskLaws.{asked-bad, asked-good, accepted-sizes}
 use Rattle.live.proofs.lent.core_from.Statement.{statement}
 use Rattle.live.proofs.lent.core_from.Tie as tie
 

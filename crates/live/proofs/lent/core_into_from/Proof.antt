@@ -10,7 +10,7 @@ use Rattle.knowledge.specs.Views.{latestTimes}
 use Rattle.questions.specs.Accepted.{coreIn}
 use Rattle.questions.specs.Question.{farmOfRecord, looking, settledIn, buffer}
 use Rattle.live.specs.Used.{tableOf, usedRecord}
-use Rattle.live.proofs.StepLaws.{asked-bad, asked-good, accepted-sizes, bad-buffer, same-buffer}
+use Rattle.live.proofs.AskLaws.{asked-bad, asked-good, accepted-sizes, bad-buffer, same-buffer}
 use Rattle.live.proofs.lent.core_into_from.Statement.{statement}
 use Rattle.live.proofs.lent.core_into_from.Tie as tie
 

@@ -11,7 +11,7 @@ use Rattle.record.specs.Good.{goodRecord}
 use Rattle.questions.specs.Answers.{countAnswer}
 use Rattle.questions.specs.Question.{farmOfRecord, looking, settledIn, byValue, countOf}
 use Rattle.live.specs.Used.{tableOf, usedRecord}
-use Rattle.live.proofs.StepLaws.{asked-bad, asked-good, accepted-sizes, few-edits, used-count}
+use Rattle.live.proofs.AskLaws.{asked-bad, asked-good, accepted-sizes, few-edits, used-count}
 use Rattle.live.proofs.lent.count_from.Statement.{statement}
 use Rattle.live.proofs.lent.count_from.Tie as tie
 

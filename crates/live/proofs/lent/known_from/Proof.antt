@@ -8,7 +8,7 @@ use borrow.Author.Tests.{not-true, not-false}
 use Rattle.questions.specs.Answers.{knownAnswer}
 use Rattle.questions.specs.Question.{knownIn, farmOfRecord}
 use Rattle.live.specs.Used.{tableOf, usedRecord}
-use Rattle.live.proofs.StepLaws.{asked-bad, asked-good, accepted-sizes}
+use Rattle.live.proofs.AskLaws.{asked-bad, asked-good, accepted-sizes}
 use Rattle.live.proofs.lent.known_from.Statement.{statement}
 use Rattle.live.proofs.lent.known_from.Tie as tie
 

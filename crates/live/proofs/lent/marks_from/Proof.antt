@@ -11,7 +11,7 @@ use Rattle.farm.specs.Limits.{limits}
 use Rattle.record.specs.Good.{goodRecord}
 use Rattle.questions.specs.Question.{farmOfRecord, looking, settledIn, buffer, marksOf}
 use Rattle.live.specs.Used.{tableOf, usedRecord}
-use Rattle.live.proofs.StepLaws.{asked-bad, asked-good, accepted-sizes, bad-buffer, same-buffer, few-edits, used-marks}
+use Rattle.live.proofs.AskLaws.{asked-bad, asked-good, accepted-sizes, bad-buffer, same-buffer, few-edits, used-marks}
 use Rattle.live.proofs.lent.marks_from.Statement.{statement}
 use Rattle.live.proofs.lent.marks_from.Tie as tie
 

@@ -8,7 +8,7 @@ use denote.Ref.{now}
 use borrow.Author.Tests.{not-true, not-false}
 use Rattle.questions.specs.Question.{farmOfRecord, viewIn, buffer}
 use Rattle.live.specs.Used.{tableOf, usedRecord}
-use Rattle.live.proofs.StepLaws.{asked-bad, asked-good, accepted-sizes, bad-buffer, same-buffer}
+use Rattle.live.proofs.AskLaws.{asked-bad, asked-good, accepted-sizes, bad-buffer, same-buffer}
 use Rattle.live.proofs.lent.view_into_from.Statement.{statement}
 use Rattle.live.proofs.lent.view_into_from.Tie as tie
 

@@ -9,7 +9,7 @@ use borrow.Author.Tests.{not-true, not-false}
 use Rattle.farm.specs.Limits.{limits}
 use Rattle.record.specs.Good.{goodRecord}
 use Rattle.live.specs.Used.{tableOf, usedRecord}
-use Rattle.live.proofs.StepLaws.{accepted-sizes, few-edits, bad-write, good-write}
+use Rattle.live.proofs.AskLaws.{accepted-sizes, few-edits, bad-write, good-write}
 use Rattle.live.proofs.lent.write_from.Statement.{statement}
 use Rattle.live.proofs.lent.write_from.Tie as tie
 
