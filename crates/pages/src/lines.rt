@@ -27,7 +27,8 @@ pub struct State {
     pub length: usize,
 }
 
-fn fresh() -> State
+// Before the first byte of a line.
+pub fn fresh() -> State
     ensures { λ r. ⌜ Within r ⌝ }
 {
     State {
@@ -37,6 +38,7 @@ fn fresh() -> State
     }
 }
 
+// After printing failed.
 fn closed() -> State
     ensures { λ r. ⌜ Within r ⌝ }
 {

@@ -5,10 +5,8 @@ mod digits; // digits.rt: bytes from pairs of hexadecimal digits
 mod lines; // lines.rt: a line from byte to byte, and what is printed at its end
 mod output; // output.rt: what is printed
 
-use crate::digits::NO_DIGIT;
 use crate::lines::LINE_ROOM;
-use crate::lines::Line;
-use crate::lines::State;
+use crate::lines::fresh;
 use crate::lines::take_bytes;
 use crate::output::complain;
 use libc::STDIN_FILENO;
@@ -21,11 +19,7 @@ const INPUT_ROOM: usize = 65_536;
 // from a number that no run uses up.
 fn take_all(input: &mut [u8], line: &mut [u8; LINE_ROOM], page: &mut [u8; PAGE_ROOM]) {
     let mut turns = u64::MAX;
-    let mut state = State {
-        line: Line::Fresh,
-        digit: NO_DIGIT,
-        length: 0,
-    };
+    let mut state = fresh();
     while turns > 0 {
         let got = libc::read(STDIN_FILENO, input);
         if got < 0 {

@@ -13,6 +13,9 @@ Inv-loop input₀ line₀ page₀ turns₀ state₀ t8 input line page turns sta
 abbrev μ-loop : tie.MeasureT-loop
 μ-loop input₀ line₀ page₀ turns₀ state₀ t8 input line page turns state = turns
 
+fresh-requires : tie.Need-fresh-requires Inv-loop μ-loop
+fresh-requires c κs = search needs
+
 loop-holds : tie.Need-loop-holds Inv-loop μ-loop
 loop-holds c = search needs
 
@@ -70,6 +73,7 @@ take-all-spec =
     (tie.spec
     Inv-loop
     μ-loop
+    fresh-requires
     loop-holds
     read-requires
     slice-aggregate-complain
