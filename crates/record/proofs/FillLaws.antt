@@ -160,12 +160,16 @@ module _ (bytes : List ℕ) (n R count at i : ℕ) (old present : Tables) (s : E
       }
 
   module _ (more : i < count) where
-    pub edits-no-stop : (r : Refusal) → takeEdit limits n R (drop at bytes) ≡ refused r → ⊥
+    -- The next edit was accepted.
+    pub edits-give : Gives (takeEdit limits n R (drop at bytes))
     unfolding takeEdits
-    edits-no-stop r e =
+    edits-give =
         let next-left : count - i ≡ suc (count - (i + 1)) = omega arith in
         let x = bind-value (takeEdit limits n R (drop at bytes)) _ (s .left) (s .rest) (rw next-left at (s .took)) in
-        value-not-refused (x .0) (x .1) r (sym (x .2) ∙ e)
+        record { what = x .0; rest = x .1; took = x .2 }
+
+    pub edits-no-stop : (r : Refusal) → takeEdit limits n R (drop at bytes) ≡ refused r → ⊥
+    edits-no-stop r e = value-not-refused (edits-give .what) (edits-give .rest) r (sym (edits-give .took) ∙ e)
 
     pub edits-on : count ≤ length (old .seats) → count ≤ length (old .times) → count ≤ length (old .cells) → count ≤ length (old .changes)
         → (e : Edit) (next : ℕ) → Placed bytes (takeEdit limits n R (drop at bytes)) e next

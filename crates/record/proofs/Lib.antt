@@ -8,6 +8,7 @@ pub mod EditLaws
 pub mod RecordLaws
 pub mod TableLaws
 pub mod FillLaws
+pub mod AgainLaws
 pub mod ReadLaws
 pub mod GoodLaws
 pub mod OrderLaws

@@ -1,19 +1,23 @@
 // The second pass: a record that the first pass found good goes into lent tables.
+use crate::changes::unmap_change;
 use crate::edit_reader::EditRead;
-use crate::edit_reader::read_edit;
+use crate::edits::Edit;
 use crate::header::HeaderRead;
 use crate::header::read_header;
 use crate::numbers::Cursor;
 use crate::numbers::Number;
 use crate::numbers::read_number;
+use farm::places::Seat;
+use farm::places::Time;
+use farm::refusals::Refusal;
 ghost use mathlib.Core.Path.{_≡_};
 ghost use Prim.Native.Nat.{_<_, _≤_, _*_};
-ghost use lib.ListN.{length};
+ghost use lib.ListN.{length, drop};
 ghost use Rattle.farm.specs.Limits.{limits};
 ghost use Rattle.record.specs.declared.edits.Before.the-variants.{Nothing};
 ghost use Rattle.record.specs.declared.numbers.Passed.the-variants.{To};
-ghost use Rattle.record.specs.Edits.{takeEdits};
-ghost use Rattle.record.specs.Cursors.{passedIn};
+ghost use Rattle.record.specs.Edits.{takeEdit, takeEdits};
+ghost use Rattle.record.specs.Cursors.{passedIn, editIn};
 ghost use Rattle.record.specs.Filling.{Gives, given, takeNumbers, AllBelow};
 ghost use mathlib.Core.List.{[]};
 ghost use Rattle.record.specs.Tables.{over, tables, EditsFilled, Accepted, TablesRead, roomy};
@@ -39,6 +43,37 @@ pub fn fill_losses(bytes: &[u8], count: usize, losses: &mut [u16]) -> Cursor
     Cursor { at }
 }
 
+// An edit that the first pass accepted for so many seats and rounds: its numbers are not tested again, so that only the
+// contract speaks of these two. No number is refused.
+fn read_accepted(bytes: &[u8], from: Cursor, n: u8, rounds: u16) -> EditRead
+    requires { ⌜ Gives (takeEdit limits n rounds (drop (from .at) (now bytes))) ⌝ }
+    ensures { λ r. ⌜ r ≡ editIn (now (bytes .entry)) (takeEdit limits n rounds (drop (from .at) (now (bytes .entry)))) ⌝ }
+{
+    let s = read_number(bytes, from);
+    let Number::Value(seat, after_seat) = s else {
+        return EditRead::Refused(Refusal::OutOfRange);
+    };
+    let t = read_number(bytes, after_seat);
+    let Number::Value(time, after_time) = t else {
+        return EditRead::Refused(Refusal::OutOfRange);
+    };
+    let c = read_number(bytes, after_time);
+    let Number::Value(cell, after_cell) = c else {
+        return EditRead::Refused(Refusal::OutOfRange);
+    };
+    let d = read_number(bytes, after_cell);
+    let Number::Value(change, after_change) = d else {
+        return EditRead::Refused(Refusal::OutOfRange);
+    };
+    let edit = Edit {
+        seat: Seat(seat as u8),
+        time: Time(time as u16),
+        cell: cell,
+        change: unmap_change(change as u16),
+    };
+    EditRead::Edit(edit, after_change)
+}
+
 // The edits of a good record of n seats, field by field into four lists.
 pub fn fill_edits(
     bytes: &[u8],
@@ -56,7 +91,7 @@ pub fn fill_edits(
     let mut at: usize = 0;
     let mut i: usize = 0;
     while i < count {
-        let read = read_edit(bytes, Cursor { at }, n, rounds);
+        let read = read_accepted(bytes, Cursor { at }, n, rounds);
         let EditRead::Edit(edit, next) = read else {
             return;
         };

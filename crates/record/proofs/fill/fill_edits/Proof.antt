@@ -5,7 +5,7 @@ use mir.Val.{SFits}
 use mir.Syntax.{w16}
 use Prim.Native.Nat.{ℕ}
 use mathlib.Core.Path.{refl}
-use Rattle.record.proofs.FillLaws.{EditsLeft, edits-start, edits-filled, edits-on, edits-no-stop}
+use Rattle.record.proofs.FillLaws.{EditsLeft, edits-start, edits-filled, edits-on, edits-give, edits-no-stop}
 use Rattle.record.proofs.EditLaws.{edit-was, edit-was-refused}
 use Rattle.record.specs.Tables.{tables}
 use denote.Ref.{now}
@@ -28,8 +28,8 @@ loop-holds c =
     let a = c .before .before .before .before .args in
     edits-start (now (a .bytes)) (a .n) (a .rounds) (a .count) (tables [] (now (a .seats)) (now (a .times)) (now (a .cells)) (now (a .changes))) (c .before .before .before .before .pre .1)
 
-read-edit-requires : tie.Need-read-edit-requires Inv-loop μ-loop
-read-edit-requires c κs = search needs
+read-accepted-requires : tie.Need-read-accepted-requires Inv-loop μ-loop
+read-accepted-requires c κs = edits-give _ _ _ _ _ _ _ _ (c .before .loop .inv) (c .loop-test .taken)
 
 enum-known-read : tie.Need-enum-known-read Inv-loop μ-loop
 enum-known-read c = search needs
@@ -52,7 +52,7 @@ same-length-4 c = c .before .before .before .before .loop .inv .changes .kept
 returns : tie.Need-returns Inv-loop μ-loop
 returns c =
     absurd (edits-no-stop _ _ _ _ _ _ _ _ (c .before .before .before .before .loop .inv) (c .before .before .before .loop-test .taken) _
-    (edit-was-refused _ _ _ _ _ (c .before .before .read-edit .ensures) refl (c .enum-told .given .1)))
+    (edit-was-refused _ _ _ _ _ (c .before .before .read-accepted .ensures) refl (c .enum-told .given .1)))
 
 slice-write-seats : tie.Need-slice-write-seats Inv-loop μ-loop
 slice-write-seats c = omega (arith, c .before .before .before .before .before .loop .inv .seats .kept, c .before .before .before .before .before .before .before .before .before .before .pre .2)
@@ -88,7 +88,7 @@ loop-again c =
     let fits : SFits w16 (c .before .before .read .given .0 .0 .change) = search needs in
     rw (toZ-ofZ w16 (c .before .before .read .given .0 .0 .change) fits)
     (edits-on _ _ _ _ _ _ _ _ (c .before .before .before .before .before .before .loop .inv) (c .before .before .before .before .before .loop-test .taken) (p .2) (p .3) (p .4) (p .5) _ _
-    (edit-was (a .n) (a .rounds) (now (a .bytes)) (c .before .before .before .before .before .before .loop .at) _ _ _ (c .before .before .before .before .read-edit .ensures) (c .before .before .read .given .1)))
+    (edit-was (a .n) (a .rounds) (now (a .bytes)) (c .before .before .before .before .before .before .loop .at) _ _ _ (c .before .before .before .before .read-accepted .ensures) (c .before .before .read .given .1)))
 
 same-length-5 : tie.Need-same-length-5 Inv-loop μ-loop
 same-length-5 c = c .before .loop .inv .seats .kept
@@ -112,7 +112,7 @@ fill-edits-spec =
     Inv-loop
     μ-loop
     loop-holds
-    read-edit-requires
+    read-accepted-requires
     enum-known-read
     enum-told
     same-length
