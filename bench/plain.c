@@ -179,7 +179,7 @@ static bool rises(const struct edit *a, const struct edit *b)
 
 static enum refusal check_edits(struct reader *reader, struct header header)
 {
-    struct edit before, edit;
+    struct edit before = {0}, edit;
     for (unsigned i = 0; i < header.edits; i++) {
         enum refusal refusal = read_edit(reader, header, &edit);
         if (refusal)
@@ -204,7 +204,7 @@ static enum refusal check(const uint8_t *bytes, size_t count, struct header *hea
     return reader.next < reader.end ? BYTES_LEFT : ACCEPTED;
 }
 
-// The second pass, over a record that the first one found good.
+// The second pass, over a record that the first one found good: no number is tested again.
 static void fill(const uint8_t *bytes, size_t count, uint16_t *losses, uint8_t *seats, uint16_t *times,
                  uint32_t *cells, int16_t *changes)
 {
@@ -220,13 +220,14 @@ static void fill(const uint8_t *bytes, size_t count, uint16_t *losses, uint8_t *
         losses[i] = set;
     }
     for (size_t i = 0; i < header.edits; i++) {
-        struct edit edit;
-        if (read_edit(&reader, header, &edit))
+        uint32_t seat, time, cell, change;
+        if (read_number(&reader, &seat) || read_number(&reader, &time) || read_number(&reader, &cell) ||
+            read_number(&reader, &change))
             return;
-        seats[i] = edit.seat;
-        times[i] = edit.time;
-        cells[i] = edit.cell;
-        changes[i] = edit.change;
+        seats[i] = seat;
+        times[i] = time;
+        cells[i] = cell;
+        changes[i] = unmap_change(change);
     }
 }
 
@@ -283,7 +284,7 @@ static bool good_edit(uint8_t seats, uint16_t rounds, const struct edit *edit)
 
 static enum refusal judge_edits(uint8_t seats, uint16_t rounds, const struct lists *lists)
 {
-    struct edit before;
+    struct edit before = {0};
     for (size_t i = 0; i < lists->editors_count; i++) {
         struct edit edit = {lists->editors[i], lists->times[i], lists->cells[i], lists->changes[i]};
         if (!good_edit(seats, rounds, &edit))
