@@ -1,10 +1,8 @@
-// The questions that are answered by value. Each puts its word and its answer into the line's buffer.
-use crate::lines::put_number;
-use crate::lines::put_refused;
-use crate::lines::put_set;
-use crate::lines::put_signed;
-use crate::lines::put_word;
-use crate::widths::wide;
+// The questions that are answered by value. Each lends the table's parts, and its answer is printed.
+use crate::answers::say_count;
+use crate::answers::say_known;
+use crate::answers::say_settled;
+use crate::answers::say_standing;
 use farm::places::Seat;
 use farm::places::Time;
 use live::lent::count_from;
@@ -12,14 +10,9 @@ use live::lent::known_from;
 use live::lent::settled_from;
 use live::lent::standing_from;
 use live::table::Table;
-use questions::answers::Count;
-use questions::answers::Known;
-use questions::answers::SettledAnswer;
-use questions::answers::Standing;
-use questions::answers::Summary;
 
-pub fn known_set(table: Table, seat: Seat, time: Time, out: &mut [u8]) -> usize {
-    let answer = known_from(
+pub fn known(table: Table, seat: Seat, time: Time) {
+    say_known(known_from(
         &table.losses,
         &table.editors,
         &table.times,
@@ -31,23 +24,11 @@ pub fn known_set(table: Table, seat: Seat, time: Time, out: &mut [u8]) -> usize 
         table.edits,
         seat,
         time,
-    );
-    let at = put_word(out, 0, b"known");
-    match answer {
-        Known::Set(set) => put_set(out, at, set),
-        Known::Refused(refusal) => put_refused(out, at, refusal),
-    }
+    ));
 }
 
-// Critical time, count of steps, kept set.
-fn put_summary(out: &mut [u8], at: usize, summary: Summary) -> usize {
-    let critical = put_signed(out, at, summary.critical);
-    let steps = put_number(out, critical, wide(summary.steps));
-    put_set(out, steps, summary.kept)
-}
-
-pub fn settled(table: Table, seat: Seat, time: Time, out: &mut [u8]) -> usize {
-    let answer = settled_from(
+pub fn settled(table: Table, seat: Seat, time: Time) {
+    say_settled(settled_from(
         &table.losses,
         &table.editors,
         &table.times,
@@ -59,16 +40,11 @@ pub fn settled(table: Table, seat: Seat, time: Time, out: &mut [u8]) -> usize {
         table.edits,
         seat,
         time,
-    );
-    let at = put_word(out, 0, b"settled");
-    match answer {
-        SettledAnswer::Settled(summary) => put_summary(out, at, summary),
-        SettledAnswer::Refused(refusal) => put_refused(out, at, refusal),
-    }
+    ));
 }
 
-pub fn counted(table: Table, seat: Seat, time: Time, out: &mut [u8]) -> usize {
-    let answer = count_from(
+pub fn count(table: Table, seat: Seat, time: Time) {
+    say_count(count_from(
         &table.losses,
         &table.editors,
         &table.times,
@@ -80,16 +56,11 @@ pub fn counted(table: Table, seat: Seat, time: Time, out: &mut [u8]) -> usize {
         table.edits,
         seat,
         time,
-    );
-    let at = put_word(out, 0, b"count");
-    match answer {
-        Count::Edits(edits) => put_number(out, at, edits as u64),
-        Count::Refused(refusal) => put_refused(out, at, refusal),
-    }
+    ));
 }
 
-pub fn loser(table: Table, seat: Seat, out: &mut [u8]) -> usize {
-    let answer = standing_from(
+pub fn loser(table: Table, seat: Seat) {
+    say_standing(standing_from(
         &table.losses,
         &table.editors,
         &table.times,
@@ -100,11 +71,5 @@ pub fn loser(table: Table, seat: Seat, out: &mut [u8]) -> usize {
         table.rounds,
         table.edits,
         seat,
-    );
-    let at = put_word(out, 0, b"loser");
-    match answer {
-        Standing::Loser => put_word(out, at, b" loser"),
-        Standing::Clean => put_word(out, at, b" clean"),
-        Standing::Refused(refusal) => put_refused(out, at, refusal),
-    }
+    ));
 }

@@ -1,7 +1,5 @@
 // The calls that change the table: each is a step by value, and its line says what the step answered.
-use crate::lines::put_refused;
-use crate::lines::put_word;
-use crate::lines::say_line;
+use crate::answers::say_done;
 use crate::parsing::MOST_NUMBERS;
 use crate::parsing::Numbers;
 use crate::rooms::within;
@@ -9,26 +7,11 @@ use crate::widths::to_i16;
 use crate::widths::to_u8;
 use crate::widths::to_u16;
 use farm::places::Seat;
-use live::answers::Done;
 use live::answers::Step;
 use live::steps::opened;
 use live::steps::with_edit;
 use live::steps::with_round;
 use live::table::Table;
-
-// A word and at most a refusal.
-const SHORT_LINE: usize = 32;
-
-pub fn say_done(word: &[u8], done: Done) {
-    let mut space = [0u8; SHORT_LINE];
-    let out: &mut [u8] = &mut space;
-    let after_word = put_word(out, 0, word);
-    let end = match done {
-        Done::Accepted => put_word(out, after_word, b" done"),
-        Done::Refused(refusal) => put_refused(out, after_word, refusal),
-    };
-    say_line(out, end);
-}
 
 // Says what a step answered, and hands on its table.
 fn taken(word: &[u8], step: Step) -> Table {

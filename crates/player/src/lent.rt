@@ -1,10 +1,13 @@
 // The questions that are answered in a lent buffer. The buffer holds known numbers before the call, so
 // that the line shows which were written, and a refusal that wrote one is found out.
+use crate::lines::LONG_LINE;
+use crate::lines::SHORT_LINE;
 use crate::lines::put_hex;
 use crate::lines::put_number;
 use crate::lines::put_refused;
 use crate::lines::put_signed;
 use crate::lines::put_word;
+use crate::lines::say_line;
 use crate::rooms::within;
 use crate::widths::wide;
 use farm::places::Seat;
@@ -17,22 +20,21 @@ use live::lent::write_from;
 use live::table::Table;
 use questions::answers::Given;
 use record::writing::Written;
-ghost use Prim.Native.Nat.{_≤_};
 ghost use mathlib.Core.Path.{_≡_};
 ghost use lib.ListN.{length};
 
 // The most numbers of a view or core, the most marks and the most bytes of a record that are lent.
-pub const MOST_TIMES: usize = 16;
+const MOST_TIMES: usize = 16;
 
-pub const MOST_MARKS: usize = 600;
+const MOST_MARKS: usize = 600;
 
-pub const MOST_BYTES: usize = 5_200;
+const MOST_BYTES: usize = 5_200;
 
 // What every byte of a lent buffer holds before the call.
-pub const BYTE_BEFORE: u8 = 200;
+const BYTE_BEFORE: u8 = 200;
 
 // What the numbers of a lent buffer hold before the call.
-pub fn times_before() -> [i16; MOST_TIMES]
+fn times_before() -> [i16; MOST_TIMES]
     ensures { λ r. ⌜ 16 ≡ length r ⌝ }
 {
     [
@@ -68,6 +70,11 @@ fn agree(some: &[i16], others: &[i16]) -> bool {
     true
 }
 
+fn are_as_before(times: &[i16]) -> bool {
+    let before = times_before();
+    agree(times, &before)
+}
+
 fn are_all(bytes: &[u8], byte: u8) -> bool {
     let mut i = 0;
     while i < bytes.len() {
@@ -98,17 +105,18 @@ fn put_times(out: &mut [u8], at: usize, times: &[i16]) -> usize {
     place
 }
 
-fn put_given_times(out: &mut [u8], at: usize, given: Given, times: &[i16]) -> usize {
-    match given {
+fn say_times(word: &[u8], given: Given, times: &[i16]) {
+    let mut space = [0u8; SHORT_LINE];
+    let out: &mut [u8] = &mut space;
+    let at = put_word(out, 0, word);
+    let end = match given {
         Given::Done => put_times(out, at, times),
-        Given::Refused(refusal) => {
-            let before = times_before();
-            put_verdict(out, at, refusal, agree(times, &before))
-        }
-    }
+        Given::Refused(refusal) => put_verdict(out, at, refusal, are_as_before(times)),
+    };
+    say_line(out, end);
 }
 
-fn view_in(table: Table, seat: Seat, time: Time, lent: &mut [i16], out: &mut [u8]) -> usize {
+fn view_in(table: Table, seat: Seat, time: Time, lent: &mut [i16]) {
     let given = view_into_from(
         &table.losses,
         &table.editors,
@@ -123,18 +131,17 @@ fn view_in(table: Table, seat: Seat, time: Time, lent: &mut [i16], out: &mut [u8
         time,
         lent,
     );
-    let at = put_word(out, 0, b"view");
-    put_given_times(out, at, given, lent)
+    say_times(b"view", given, lent);
 }
 
-pub fn view(table: Table, seat: Seat, time: Time, room: usize, out: &mut [u8]) -> usize {
+pub fn view(table: Table, seat: Seat, time: Time, room: usize) {
     let mut space = times_before();
     let times: &mut [i16] = &mut space;
     let length = within(room, times.len());
-    view_in(table, seat, time, &mut times[0..length], out)
+    view_in(table, seat, time, &mut times[0..length]);
 }
 
-fn core_in(table: Table, seat: Seat, time: Time, lent: &mut [i16], out: &mut [u8]) -> usize {
+fn core_in(table: Table, seat: Seat, time: Time, lent: &mut [i16]) {
     let given = core_into_from(
         &table.losses,
         &table.editors,
@@ -149,15 +156,14 @@ fn core_in(table: Table, seat: Seat, time: Time, lent: &mut [i16], out: &mut [u8
         time,
         lent,
     );
-    let at = put_word(out, 0, b"core");
-    put_given_times(out, at, given, lent)
+    say_times(b"core", given, lent);
 }
 
-pub fn core(table: Table, seat: Seat, time: Time, room: usize, out: &mut [u8]) -> usize {
+pub fn core(table: Table, seat: Seat, time: Time, room: usize) {
     let mut space = times_before();
     let times: &mut [i16] = &mut space;
     let length = within(room, times.len());
-    core_in(table, seat, time, &mut times[0..length], out)
+    core_in(table, seat, time, &mut times[0..length]);
 }
 
 fn put_marks(out: &mut [u8], at: usize, marks: &[u8]) -> usize {
@@ -170,7 +176,18 @@ fn put_marks(out: &mut [u8], at: usize, marks: &[u8]) -> usize {
     place
 }
 
-fn marks_in(table: Table, seat: Seat, time: Time, lent: &mut [u8], out: &mut [u8]) -> usize {
+fn say_marks(given: Given, marks: &[u8]) {
+    let mut space = [0u8; LONG_LINE];
+    let out: &mut [u8] = &mut space;
+    let at = put_word(out, 0, b"marks");
+    let end = match given {
+        Given::Done => put_marks(out, at, marks),
+        Given::Refused(refusal) => put_verdict(out, at, refusal, are_all(marks, BYTE_BEFORE)),
+    };
+    say_line(out, end);
+}
+
+fn marks_in(table: Table, seat: Seat, time: Time, lent: &mut [u8]) {
     let given = marks_from(
         &table.losses,
         &table.editors,
@@ -185,18 +202,14 @@ fn marks_in(table: Table, seat: Seat, time: Time, lent: &mut [u8], out: &mut [u8
         time,
         lent,
     );
-    let at = put_word(out, 0, b"marks");
-    match given {
-        Given::Done => put_marks(out, at, lent),
-        Given::Refused(refusal) => put_verdict(out, at, refusal, are_all(lent, BYTE_BEFORE)),
-    }
+    say_marks(given, lent);
 }
 
-pub fn marks(table: Table, seat: Seat, time: Time, room: usize, out: &mut [u8]) -> usize {
+pub fn marks(table: Table, seat: Seat, time: Time, room: usize) {
     let mut space = [BYTE_BEFORE; MOST_MARKS];
     let bytes: &mut [u8] = &mut space;
     let length = within(room, bytes.len());
-    marks_in(table, seat, time, &mut bytes[0..length], out)
+    marks_in(table, seat, time, &mut bytes[0..length]);
 }
 
 fn put_bytes(out: &mut [u8], at: usize, bytes: &[u8]) -> usize {
@@ -217,7 +230,18 @@ fn put_record(out: &mut [u8], at: usize, length: usize, bytes: &[u8]) -> usize {
     put_bytes(out, after_blank, &bytes[0..end])
 }
 
-fn record_in(table: Table, lent: &mut [u8], out: &mut [u8]) -> usize {
+fn say_record(written: Written, bytes: &[u8]) {
+    let mut space = [0u8; LONG_LINE];
+    let out: &mut [u8] = &mut space;
+    let at = put_word(out, 0, b"record");
+    let end = match written {
+        Written::Length(length) => put_record(out, at, length, bytes),
+        Written::Refused(refusal) => put_verdict(out, at, refusal, are_all(bytes, BYTE_BEFORE)),
+    };
+    say_line(out, end);
+}
+
+fn record_in(table: Table, lent: &mut [u8]) {
     let written = write_from(
         &table.losses,
         &table.editors,
@@ -230,16 +254,12 @@ fn record_in(table: Table, lent: &mut [u8], out: &mut [u8]) -> usize {
         table.edits,
         lent,
     );
-    let at = put_word(out, 0, b"record");
-    match written {
-        Written::Length(length) => put_record(out, at, length, lent),
-        Written::Refused(refusal) => put_verdict(out, at, refusal, are_all(lent, BYTE_BEFORE)),
-    }
+    say_record(written, lent);
 }
 
-pub fn record(table: Table, room: usize, out: &mut [u8]) -> usize {
+pub fn record(table: Table, room: usize) {
     let mut space = [BYTE_BEFORE; MOST_BYTES];
     let bytes: &mut [u8] = &mut space;
     let length = within(room, bytes.len());
-    record_in(table, &mut bytes[0..length], out)
+    record_in(table, &mut bytes[0..length]);
 }

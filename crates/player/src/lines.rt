@@ -9,8 +9,11 @@ use farm::refusals::number;
 use farm::sets::holds;
 use libc::STDOUT_FILENO;
 
+// Room for a remark, a refusal, or numbers of a few seats.
+pub const SHORT_LINE: usize = 512;
+
 // Room for any line: a record of 4,990 bytes is the longest.
-pub const LINE_ROOM: usize = 12_288;
+pub const LONG_LINE: usize = 12_288;
 
 // No set has a seat at or above this.
 const SET_SEATS: u8 = 16;

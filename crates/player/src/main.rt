@@ -6,6 +6,7 @@
 //   known SEAT TIME · settled SEAT TIME · count SEAT TIME · loser SEAT
 //   fresh · alter FIELD INDEX VALUE · table (the host's hand on its table, and the table's checksum)
 // tests/independent/FORMATS.md has the format in full.
+mod answers; // answers.rt: the lines of answers by value
 mod asks; // asks.rt: questions answered by value
 mod calls; // calls.rt: calls that change the table
 mod checksum; // checksum.rt: the table's checksum

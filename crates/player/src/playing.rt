@@ -1,7 +1,7 @@
 // A line of the script, played: a remark is copied, a change hands on the next table, and a question
 // leaves the table as it is.
-use crate::asks::counted;
-use crate::asks::known_set;
+use crate::asks::count;
+use crate::asks::known;
 use crate::asks::loser;
 use crate::asks::settled;
 use crate::calls::edit;
@@ -12,7 +12,7 @@ use crate::lent::core;
 use crate::lent::marks;
 use crate::lent::record;
 use crate::lent::view;
-use crate::lines::LINE_ROOM;
+use crate::lines::SHORT_LINE;
 use crate::lines::put_hex;
 use crate::lines::put_word;
 use crate::lines::say_line;
@@ -29,42 +29,39 @@ use farm::places::Seat;
 use farm::places::Time;
 use live::table::Table;
 
-fn say_remark(line: &[u8]) {
-    let mut space = [0u8; LINE_ROOM];
+// Words as they stand: a remark, or `unknown`.
+fn say(words: &[u8]) {
+    let mut space = [0u8; SHORT_LINE];
     let out: &mut [u8] = &mut space;
-    let end = put_word(out, 0, line);
+    let end = put_word(out, 0, words);
     say_line(out, end);
 }
 
-fn table_sum(table: Table, out: &mut [u8]) -> usize {
+fn say_checksum(sum: u64) {
+    let mut space = [0u8; SHORT_LINE];
+    let out: &mut [u8] = &mut space;
     let at = put_word(out, 0, b"table ");
-    put_hex(out, at, checksum(table), 8)
+    let end = put_hex(out, at, sum, 8);
+    say_line(out, end);
 }
 
-// A question about one place, or of the table itself.
-fn answer(table: Table, word: Word, numbers: Numbers, out: &mut [u8]) -> usize {
+// A question about a place, or about the table as a whole.
+fn ask(table: Table, word: Word, numbers: Numbers) {
     let seat = Seat(to_u8(numbers.values[0]));
     let time = Time(to_u16(numbers.values[1]));
     let room = to_u16(numbers.values[2]) as usize;
     match word {
-        Word::View => view(table, seat, time, room, out),
-        Word::Known => known_set(table, seat, time, out),
-        Word::Settled => settled(table, seat, time, out),
-        Word::Core => core(table, seat, time, room, out),
-        Word::Marks => marks(table, seat, time, room, out),
-        Word::Count => counted(table, seat, time, out),
-        Word::Loser => loser(table, seat, out),
-        Word::Record => record(table, to_u16(numbers.values[0]) as usize, out),
-        Word::Table => table_sum(table, out),
-        _ => put_word(out, 0, b"unknown"),
+        Word::View => view(table, seat, time, room),
+        Word::Known => known(table, seat, time),
+        Word::Settled => settled(table, seat, time),
+        Word::Core => core(table, seat, time, room),
+        Word::Marks => marks(table, seat, time, room),
+        Word::Count => count(table, seat, time),
+        Word::Loser => loser(table, seat),
+        Word::Record => record(table, to_u16(numbers.values[0]) as usize),
+        Word::Table => say_checksum(checksum(table)),
+        _ => say(b"unknown"),
     }
-}
-
-fn ask(table: Table, word: Word, numbers: Numbers) {
-    let mut space = [0u8; LINE_ROOM];
-    let out: &mut [u8] = &mut space;
-    let end = answer(table, word, numbers, out);
-    say_line(out, end);
 }
 
 // One call, and the table after it.
@@ -86,7 +83,7 @@ fn call(table: Table, word: Word, numbers: Numbers) -> Table {
 pub fn play(table: Table, line: &[u8]) -> Table {
     if 0 < line.len() {
         if line[0] == b'#' {
-            say_remark(line);
+            say(line);
             return table;
         }
     }

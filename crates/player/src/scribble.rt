@@ -1,6 +1,6 @@
 // The host's own hand on its table: the state before any opening, and one number altered. Nothing is
 // tested, as nothing keeps a host from writing there.
-use crate::calls::say_done;
+use crate::answers::say_done;
 use crate::parsing::Numbers;
 use crate::widths::to_i16;
 use crate::widths::to_u8;
