@@ -15,8 +15,7 @@ use Rattle.knowledge.specs.Farm.{Farm, losers}
 use Rattle.knowledge.specs.Views.{latestTimes}
 use Rattle.knowledge.specs.Settled.{Settled, Outcome, overBound, settled, outcomeOf}
 use Rattle.questions.specs.Answers.{laid, noTimes, placeAnswer}
-use Rattle.questions.specs.Question.{Asked, byValue, isPlace, ofOutcome, settledIn}
-use Rattle.questions.specs.declared.answers.Given.{Given}
+use Rattle.questions.specs.Question.{byValue, isPlace, ofOutcome, settledIn}
 use Rattle.questions.specs.declared.answers.Given.the-variants.{Done, Refused}
 use Rattle.questions.specs.declared.answers.Place.{Place}
 use Rattle.questions.proofs.AskLaws.{settled-valued}

@@ -1,14 +1,11 @@
 -- `listing::pages::write_page` meets its contract: nothing without room, the one line of a bad record, or the page of the
 -- record that was read. Assumes nothing.
-use mathlib.Core.Path.{_≡_, sym}
-use Prim.Native.Nat.{_*_, _≤_}
-use native.Mathlib.Nat.{mul-le-mul}
+use mathlib.Core.Path.{sym}
+use Prim.Native.Nat.{_≤_}
 use native.Mathlib.Omega.{arith}
-use lib.ListN.{length, take}
+use lib.ListN.{length}
 use lib.Seq.{length-take-le}
 use denote.Ref.{now}
-use Rattle.record.proofs.ReadLaws.{Room}
-use Rattle.record.specs.Tables.{tables}
 use Rattle.listing.specs.Printing.{pageRoom}
 use Rattle.listing.proofs.PageLaws.{Filled, read-good, read-bad, good-page, bad-page, page-nowhere, page-put, page-printed}
 use borrow.Author.Needs.{needs}

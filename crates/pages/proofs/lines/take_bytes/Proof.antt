@@ -1,7 +1,6 @@
 -- `pages::lines::take_bytes` is safe and ends. The invariant of its loop: what is kept has room.
 -- Assumes nothing.
 use Prim.Native.Nat.{_-_, _≤_}
-use native.Mathlib.Omega.{arith}
 use borrow.Author.Needs.{needs}
 use lib.ListN.{length}
 use Rattle.pages.specs.Lines.{Within}
