@@ -17,7 +17,7 @@ ghost use Prim.Native.Nat.{_≤_};
 ghost use lib.ListN.{length};
 ghost use Rattle.farm.specs.Limits.{limits};
 ghost use Rattle.construction.specs.Counts.{farmFor};
-ghost use Rattle.questions.specs.Question.{byValue, refused, settledIn};
+ghost use Rattle.questions.specs.Question.{byValue, settledIn};
 ghost use Rattle.questions.specs.Accepted.{Accepted};
 ghost use Rattle.questions.specs.Answers.{placeAnswer, noPlace};
 
