@@ -7,6 +7,7 @@ use Rattle.bindings.proofs.seats.ricecrock_core as ricecrock-core
 use Rattle.bindings.proofs.pages.ricecrock_page as ricecrock-page
 use Rattle.bindings.proofs.tables.ricecrock_open as ricecrock-open
 use Rattle.bindings.proofs.tables.ricecrock_add_round as ricecrock-add-round
+use Rattle.bindings.proofs.tables.ricecrock_add_edit as ricecrock-add-edit
 
 pub ricecrock-read-complete : Complete ricecrock-read.ended (λ M. ricecrock-read.clauses {M = M})
 ricecrock-read-complete M 𝓤 H A mem run κs a g r s v w = by-facts M 𝓤 _ _ _ (λ p q. (cc, cc))
@@ -25,3 +26,6 @@ ricecrock-open-complete M 𝓤 H A mem run κs a g r s v w = by-facts M 𝓤 _ _
 
 pub ricecrock-add-round-complete : Complete ricecrock-add-round.ended (λ M. ricecrock-add-round.clauses {M = M})
 ricecrock-add-round-complete M 𝓤 H A mem run κs a g r s v w = by-facts M 𝓤 _ _ _ (λ p q. (cc, cc))
+
+pub ricecrock-add-edit-complete : Complete ricecrock-add-edit.ended (λ M. ricecrock-add-edit.clauses {M = M})
+ricecrock-add-edit-complete M 𝓤 H A mem run κs a g r s v w = by-facts M 𝓤 _ _ _ (λ p q. (cc, cc))

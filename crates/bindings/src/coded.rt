@@ -1,11 +1,13 @@
 // Each call on the live table as a step by value, with a number as its answer: what an exported function can
 // hand out is a number, and the function on `&mut Table` has no branch to make one.
 use crate::codes::done_number;
+use farm::places::Seat;
 use live::steps::opened;
+use live::steps::with_edit;
 use live::steps::with_round;
 use live::table::Table;
 ghost use mathlib.Core.Path.{_≡_};
-ghost use Rattle.live.specs.Calls.{opening, round, answerTo, tableAfter};
+ghost use Rattle.live.specs.Calls.{opening, round, edit, answerTo, tableAfter};
 ghost use Rattle.live.specs.Answers.{doneOf};
 ghost use Rattle.bindings.specs.Codes.{doneNumber};
 
@@ -30,6 +32,18 @@ pub fn coded_round(table: Table, sets: &[u16]) -> Coded
     ensures { λ r. ⌜ (r .code ≡ doneNumber (doneOf (answerTo (round (now (sets .entry))) table))) × (r .table ≡ tableAfter (round (now (sets .entry))) table) ⌝ }
 {
     let step = with_round(table, sets);
+    let answer = step.answer;
+    let after = step.table;
+    Coded {
+        code: done_number(answer),
+        table: after,
+    }
+}
+
+pub fn coded_edit(table: Table, seat: u8, cell: u32, change: i16) -> Coded
+    ensures { λ r. ⌜ (r .code ≡ doneNumber (doneOf (answerTo (edit (record { 0 = seat }) cell change) table))) × (r .table ≡ tableAfter (edit (record { 0 = seat }) cell change) table) ⌝ }
+{
+    let step = with_edit(table, Seat(seat), cell, change);
     let answer = step.answer;
     let after = step.table;
     Coded {

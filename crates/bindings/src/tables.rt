@@ -1,10 +1,11 @@
 // The calls on the live table, for a host in C, which keeps the table in its own memory. Each is thin: how they
 // are proved is in docs/WALKS.md.
+use crate::coded::coded_edit;
 use crate::coded::coded_opening;
 use crate::coded::coded_round;
 use live::table::Table;
 ghost use mathlib.Core.Path.{_≡_};
-ghost use Rattle.live.specs.Calls.{opening, round, answerTo, tableAfter};
+ghost use Rattle.live.specs.Calls.{opening, round, edit, answerTo, tableAfter};
 ghost use Rattle.live.specs.Answers.{doneOf};
 ghost use Rattle.bindings.specs.Codes.{doneNumber};
 
@@ -24,6 +25,16 @@ pub extern "C" fn ricecrock_add_round(table: &mut Table, sets: &[u16]) -> u8
     ensures { λ r. ⌜ (r ≡ doneNumber (doneOf (answerTo (round (now (sets .entry))) (now (table .entry))))) × (now (table .exit) ≡ tableAfter (round (now (sets .entry))) (now (table .entry))) ⌝ }
 {
     let step = coded_round(*table, sets);
+    *table = step.table;
+    step.code
+}
+
+// Adds an edit at the present time: 19, 3, 12, 5.
+#[no_mangle]
+pub extern "C" fn ricecrock_add_edit(table: &mut Table, seat: u8, cell: u32, change: i16) -> u8
+    ensures { λ r. ⌜ (r ≡ doneNumber (doneOf (answerTo (edit (record { 0 = seat }) cell change) (now (table .entry))))) × (now (table .exit) ≡ tableAfter (edit (record { 0 = seat }) cell change) (now (table .entry))) ⌝ }
+{
+    let step = coded_edit(*table, seat, cell, change);
     *table = step.table;
     step.code
 }

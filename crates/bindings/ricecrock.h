@@ -51,4 +51,7 @@ uint8_t ricecrock_open(struct ricecrock_table *table, uint8_t seats, uint8_t bou
 // Adds a round, a loss set for each sender. Refusals: 19, 11, 10, 4.
 uint8_t ricecrock_add_round(struct ricecrock_table *table, const uint16_t *sets, size_t sets_count);
 
+// Adds an edit at the present time, the number of rounds done. Refusals: 19, 3, 12, 5.
+uint8_t ricecrock_add_edit(struct ricecrock_table *table, uint8_t seat, uint32_t cell, int16_t change);
+
 #endif
