@@ -3,10 +3,12 @@
 use mathlib.Core.Path.{sym, _∙_}
 use Rattle.farm.proofs.Complete.{Complete, by-facts}
 use Rattle.construction.proofs.views.views_at as views-at
+use Rattle.construction.proofs.views.seat_view as seat-view
 use Rattle.construction.proofs.views.view_of as view-of
 use Rattle.construction.proofs.views.view_of_set as view-of-set
 use Rattle.construction.proofs.known.known_in as known-in
 use Rattle.construction.proofs.known.known_of as known-of
+use Rattle.construction.proofs.known.known_sets as known-sets
 use Rattle.construction.proofs.losers.losers_by as losers-by
 use Rattle.construction.proofs.losers.is_loser as is-loser
 use Rattle.construction.proofs.settled.settle as settle
@@ -15,6 +17,9 @@ use Rattle.construction.proofs.settled.settle as settle
 
 pub views-at-complete : Complete views-at.ended (λ M. views-at.clauses {M = M})
 views-at-complete M 𝓤 H A mem run κs a g r s v w = by-facts M 𝓤 _ _ _ (λ p q. (λ i. record { of = (p ∙ sym q) i }, cc))
+
+pub seat-view-complete : Complete seat-view.ended (λ M. seat-view.clauses {M = M})
+seat-view-complete M 𝓤 H A mem run κs a g r s v w = by-facts M 𝓤 _ _ _ (λ p q. (λ i. record { of = (p ∙ sym q) i }, cc))
 
 pub view-of-complete : Complete view-of.ended (λ M. view-of.clauses {M = M})
 view-of-complete M 𝓤 H A mem run κs a g r s v w = by-facts M 𝓤 _ _ _ (λ p q. (λ i. record { of = (p ∙ sym q) i }, cc))
@@ -29,6 +34,9 @@ known-in-complete M 𝓤 H A mem run κs a g r s v w = by-facts M 𝓤 _ _ _ (λ
 
 pub known-of-complete : Complete known-of.ended (λ M. known-of.clauses {M = M})
 known-of-complete M 𝓤 H A mem run κs a g r s v w = by-facts M 𝓤 _ _ _ (λ p q. (cc, cc))
+
+pub known-sets-complete : Complete known-sets.ended (λ M. known-sets.clauses {M = M})
+known-sets-complete M 𝓤 H A mem run κs a g r s v w = by-facts M 𝓤 _ _ _ (λ p q. (λ i. record { of = (p ∙ sym q) i }, cc))
 
 pub losers-by-complete : Complete losers-by.ended (λ M. losers-by.clauses {M = M})
 losers-by-complete M 𝓤 H A mem run κs a g r s v w = by-facts M 𝓤 _ _ _ (λ p q. (cc, cc))

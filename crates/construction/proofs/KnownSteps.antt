@@ -9,13 +9,14 @@ use lib.Dec.{ltb}
 use lib.ListN.{getD}
 use borrow.Author.Tests.{lt-ltb}
 use Rattle.farm.specs.Sets.{Seats, bit, any}
+use Rattle.farm.specs.declared.places.Time.{Time}
 use Rattle.farm.proofs.SetLaws.{any-intro, any-none, collect-equal, bit-collect}
 use Rattle.knowledge.specs.Farm.{Farm, lostIn, farmOf, losesIn, losesBy, losersBy, time}
-use Rattle.knowledge.specs.Views.{View}
+use Rattle.knowledge.specs.Views.{View, view}
 use Rattle.knowledge.specs.Known.{missedAt, missed, knownIn}
-use Rattle.construction.specs.Counts.{room, counts, held, lostBefore}
+use Rattle.construction.specs.Counts.{room, counts, held, viewIn, lostBefore, allCounts, knownSets}
 use Rattle.construction.proofs.SetSteps.{any-more}
-use Rattle.construction.proofs.ViewSteps.{held-counts}
+use Rattle.construction.proofs.ViewSteps.{view-in-all, counts-equal, held-counts}
 
 -- ════ Looking for one that passes ════
 
@@ -90,6 +91,17 @@ known-equal farm v w h =
 pub known-held : (farm : Farm) (v : View) (view : List ℕ) → farm .seats ≤ room → view ≡ counts (farm .seats) v
     → knownIn farm (held view) ≡ knownIn farm v
 known-held farm v view small e = known-equal farm (held view) v (λ q h. rw e (held-counts (farm .seats) v q small h))
+
+-- The table of all views has the known set of each seat's view.
+abbrev pub knownFrom : Farm → (table : List ℕ) → ℕ → Seats
+knownFrom farm table p = knownIn farm (viewIn table p)
+
+pub known-in-all : (farm : Farm) (ℓ : Time) (table : List ℕ) → farm .seats ≤ room → table ≡ allCounts farm (ℓ .0)
+    → counts (farm .seats) (knownFrom farm table) ≡ counts (farm .seats) (knownSets farm ℓ)
+unfolding knownSets
+known-in-all farm ℓ table small e =
+    counts-equal (farm .seats) (knownFrom farm table) (knownSets farm ℓ)
+    (λ p l. known-equal farm (viewIn table p) (view farm p (ℓ .0)) (λ q h. rw e (view-in-all farm (ℓ .0) p q small l h)))
 
 -- ════ Losers ════
 

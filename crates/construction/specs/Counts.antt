@@ -7,9 +7,11 @@ use lib.Dec.{ltb}
 use lib.ListN.{getD}
 use Rattle.farm.specs.Limits.{limits}
 use Rattle.farm.specs.Sets.{Seats, any, collect}
+use Rattle.farm.specs.declared.places.Time.{Time}
 use Rattle.construction.specs.declared.sizes.Sizes.{Sizes}
-use Rattle.knowledge.specs.Farm.{Farm, lostIn, farmOf}
+use Rattle.knowledge.specs.Farm.{Farm, lostIn, farmOf, seat}
 use Rattle.knowledge.specs.Views.{View, view}
+use Rattle.knowledge.specs.Known.{knownOf}
 
 -- The first m values of a function, as a list.
 unfoldable pub tabulate : (m : ℕ) → (ℕ → ℕ) → List ℕ
@@ -69,3 +71,7 @@ arrivals n table r p = collect n (λ s. not (lostIn n table r s p))
 -- The farm that the numbers n, t, R and a table of loss sets describe.
 abbrev pub farmFor : Sizes → List Seats → Farm
 farmFor sizes table = farmOf (sizes .seats) (sizes .bound) (sizes .rounds) table
+
+-- The known set of each seat's view at a time.
+unfoldable pub knownSets : Farm → Time → ℕ → Seats
+knownSets farm ℓ p = knownOf farm (seat p) ℓ

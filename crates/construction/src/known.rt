@@ -4,14 +4,22 @@ use crate::sets::with_seat;
 use crate::sizes::Sizes;
 use crate::views::Counts;
 use crate::views::ROOM;
+use crate::views::TABLE;
+use crate::views::seat_view;
 use crate::views::view_of;
+use crate::views::views_at;
 use farm::places::Seat;
 use farm::places::Time;
 ghost use mathlib.Core.Path.{_≡_};
 ghost use Prim.Native.Nat.{_≤_, _<_};
 ghost use Rattle.farm.specs.Limits.{limits};
 ghost use Rattle.knowledge.specs.Known.{missed, knownIn, knownOf};
-ghost use Rattle.construction.specs.Counts.{held, lostBefore, farmFor};
+ghost use Rattle.construction.specs.Counts.{counts, held, viewIn, lostBefore, farmFor, knownSets};
+
+// The known sets of all seats' views at one time, 0 for every seat from n on.
+pub struct KnownSets {
+    pub of: [u16; ROOM],
+}
 
 // Whether a send of z to q was lost in a round that ends before the count.
 fn missed_at(losses: &[u16], sizes: Sizes, z: Seat, q: Seat, count: u16) -> bool
@@ -59,4 +67,27 @@ pub fn known_of(losses: &[u16], sizes: Sizes, seat: Seat, time: Time) -> u16
 {
     let view = view_of(losses, sizes, seat, time);
     known_in(losses, sizes, &view.of)
+}
+
+// The known set of one seat's view in a table of all views.
+fn known_at(losses: &[u16], sizes: Sizes, views: &[u16; TABLE], seat: Seat) -> u16
+    requires { ⌜ (sizes .seats ≤ limits .mostSeats) × (seat .0 < limits .mostSeats) ⌝ }
+    ensures { λ r. ⌜ r ≡ knownIn (farmFor sizes (now (losses .entry))) (viewIn (now (views .entry)) (seat .0)) ⌝ }
+{
+    let view = seat_view(views, sizes.seats, seat);
+    known_in(losses, sizes, &view.of)
+}
+
+// The known sets of all seats' views at a time, from one pass of the views.
+pub fn known_sets(losses: &[u16], sizes: Sizes, time: Time) -> KnownSets
+    requires { ⌜ (sizes .seats ≤ limits .mostSeats) × (time .0 ≤ limits .mostRounds) ⌝ }
+    ensures { λ r. ⌜ r .of ≡ counts (sizes .seats) (knownSets (farmFor sizes (now (losses .entry))) time) ⌝ }
+{
+    let views = views_at(losses, sizes, time);
+    let seats = sizes.seats;
+    let mut sets: [u16; ROOM] = [0; ROOM];
+    for p in 0..seats {
+        sets[p as usize] = known_at(losses, sizes, &views.of, Seat(p));
+    }
+    KnownSets { of: sets }
 }

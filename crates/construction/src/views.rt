@@ -156,7 +156,7 @@ pub fn views_at(losses: &[u16], sizes: Sizes, time: Time) -> Views
 }
 
 // One seat's part of the table of all views.
-fn seat_view(views: &[u16; TABLE], seats: u8, seat: Seat) -> Counts
+pub fn seat_view(views: &[u16; TABLE], seats: u8, seat: Seat) -> Counts
     requires { ⌜ (seats ≤ limits .mostSeats) × (seat .0 < limits .mostSeats) ⌝ }
     ensures { λ r. ⌜ r .of ≡ counts seats (viewIn (now (views .entry)) (seat .0)) ⌝ }
 {

@@ -1,32 +1,35 @@
--- The line of a place, from what was asked of the place, and what a printed line leaves. Assumes nothing.
-use mathlib.Core.Path.{_≡_, refl, sym, _∙_, ap}
+-- The line of a place, from what was asked of the place, and what a printed line leaves. Seats with one known set at a time
+-- are given one answer. Assumes nothing.
+use mathlib.Core.Path.{_≡_, sym, _∙_, ap}
 use mathlib.Core.Bool.{Bool, true}
 use mathlib.Core.List.{List}
 use Prim.Native.Nat.{ℕ, _+_, _<_, _≤_}
 use native.Mathlib.Omega.{arith}
-use lib.ListN.{length, take, drop}
+use lib.ListN.{length, take, drop, getD}
 use lib.Seq.{take-append-le}
 use borrow.Author.Tests.{lt-ltb, le-leb}
-use Rattle.farm.specs.Sets.{bit}
+use Rattle.farm.specs.Sets.{Seats, bit}
 use Rattle.farm.specs.declared.places.Seat.{Seat}
 use Rattle.farm.specs.declared.places.Time.{Time}
-use Rattle.farm.specs.declared.refusals.Refusal.{Refusal}
 use Rattle.knowledge.specs.Farm.{Farm, losers}
 use Rattle.knowledge.specs.Views.{latestTimes}
-use Rattle.knowledge.specs.Settled.{Settled, Outcome, overBound, settled, outcomeOf}
+use Rattle.knowledge.specs.Known.{knownOf}
+use Rattle.knowledge.specs.Settled.{Settled, Outcome, overBound, settled, settle, outcomeOf}
+use Rattle.construction.specs.Counts.{room, counts, knownSets}
+use Rattle.construction.proofs.ViewSteps.{counts-at}
 use Rattle.questions.specs.Answers.{laid, noTimes, placeAnswer}
 use Rattle.questions.specs.Question.{byValue, isPlace, ofOutcome, settledIn}
-use Rattle.questions.specs.declared.answers.Given.the-variants.{Done, Refused}
+use Rattle.questions.specs.declared.answers.Given.{Given}
 use Rattle.questions.specs.declared.answers.Place.{Place}
 use Rattle.questions.proofs.AskLaws.{settled-valued}
 use Rattle.questions.proofs.TimeLaws.{length-times}
 use Rattle.page.specs.Digits.{Text}
-use Rattle.page.specs.Lines.{placeLine, overLine}
+use Rattle.page.specs.Lines.{placeLine}
 use Rattle.page.specs.Printing.{Puts, Prints, lineRoom}
 use Rattle.page.specs.declared.lines.Printed.{Printed}
 use Rattle.page.specs.declared.lines.Printed.the-variants.{Length}
 use Rattle.listing.specs.Page.{lineOf, lineAt}
-use Rattle.listing.specs.Printing.{countFrom, endIn, lineFrom}
+use Rattle.listing.specs.Printing.{countFrom, endIn, lineFrom, lineGiven, lineIn}
 
 -- Where there is room, the line is put.
 pub printed-put : {text : Text} {at end : ℕ} {old new : List ℕ} {printed : Printed} → at + lineRoom ≤ length old
@@ -60,38 +63,42 @@ core-alone n place s ℓ p loser e =
     ap (take n) e ∙ take-append-le n (latestTimes n (s .core)) (drop (length (latestTimes n (s .core))) noTimes) inside in
     rw same
 
-module _ (farm : Farm) (seats times : List ℕ) (ℓ : Time) (p : Seat) (here : p .0 < farm .seats) (early : ℓ .0 ≤ farm .rounds) (place : Place)
-    (e : place ≡ placeAnswer (farm .seats) seats times (settledIn byValue 0 farm p ℓ)) where
-  is-place : isPlace farm p ℓ ≡ true
-  unfolding isPlace
-  is-place = rw (lt-ltb (p .0) (farm .seats) here, le-leb (ℓ .0) (farm .rounds) early)
+is-place : (farm : Farm) (p : Seat) (ℓ : Time) → p .0 < farm .seats → ℓ .0 ≤ farm .rounds → isPlace farm p ℓ ≡ true
+unfolding isPlace
+is-place farm p ℓ here early = rw (lt-ltb (p .0) (farm .seats) here, le-leb (ℓ .0) (farm .rounds) early)
 
-  place-was : place ≡ placeAnswer (farm .seats) seats times (ofOutcome (outcomeOf farm p ℓ))
-  place-was = e ∙ ap (placeAnswer (farm .seats) seats times) (settled-valued farm p ℓ 0 is-place)
+-- The line of what was asked of a place is the place's line.
+pub line-at : (farm : Farm) (seats times : List ℕ) (lost : Seats) (ℓ : Time) (p : Seat) (place : Place) → lost ≡ losers farm → p .0 < farm .seats
+    → ℓ .0 ≤ farm .rounds → place ≡ placeAnswer (farm .seats) seats times (settledIn byValue 0 farm p ℓ)
+    → lineIn place (farm .seats) ℓ p (bit lost (p .0)) ≡ lineAt farm (countFrom seats times) ℓ p
+unfolding lineAt lineOf lineGiven placeAnswer ofOutcome countFrom
+line-at farm seats times lost ℓ p place all here early e =
+    rw all (by (outcomeOf farm p ℓ) (e ∙ ap (placeAnswer (farm .seats) seats times) (settled-valued farm p ℓ 0 (is-place farm p ℓ here early))))
+  where
+    by : (o : Outcome) → place ≡ placeAnswer (farm .seats) seats times (ofOutcome o)
+        → lineIn place (farm .seats) ℓ p (bit (losers farm) (p .0)) ≡ lineOf farm (countFrom seats times) ℓ p o
+    by overBound f = rw f
+    by (settled s) f =
+        ap (λ (g : Given). lineGiven g (lineFrom place (farm .seats) ℓ p (bit (losers farm) (p .0)))) (ap (λ (x : Place). x .given) f)
+        ∙ core-alone (farm .seats) place s ℓ p (bit (losers farm) (p .0)) (ap (λ (x : Place). x .latest) f)
+        ∙ rw f
 
-  pub over-at : (r : Refusal) → place .given ≡ Refused r
-      → overLine ℓ p (bit (losers farm) (p .0)) ≡ lineAt farm (countFrom seats times) ℓ p
-  unfolding lineAt lineOf placeAnswer ofOutcome
-  over-at r g = by (outcomeOf farm p ℓ) place-was
-    where
-      by : (o : Outcome) → place ≡ placeAnswer (farm .seats) seats times (ofOutcome o)
-          → overLine ℓ p (bit (losers farm) (p .0)) ≡ lineOf farm (countFrom seats times) ℓ p o
-      by overBound f = refl
-      by (settled s) f =
-          let same : Done ≡ Refused r = sym (ap (λ (x : Place). x .given) f) ∙ g in
-          let z : _≡_ {A = ℕ} 0 1 = cc in
-          absurd (omega arith)
+-- ════ Seats with one known set ════
 
-  pub place-at : place .given ≡ Done
-      → placeLine (lineFrom place (farm .seats) ℓ p (bit (losers farm) (p .0))) ≡ lineAt farm (countFrom seats times) ℓ p
-  unfolding lineAt lineOf placeAnswer ofOutcome countFrom
-  place-at g = by (outcomeOf farm p ℓ) place-was
-    where
-      by : (o : Outcome) → place ≡ placeAnswer (farm .seats) seats times (ofOutcome o)
-          → placeLine (lineFrom place (farm .seats) ℓ p (bit (losers farm) (p .0))) ≡ lineOf farm (countFrom seats times) ℓ p o
-      by overBound f =
-          let z : _≡_ {A = ℕ} 0 1 = cc in
-          absurd (omega arith)
-      by (settled s) f =
-          core-alone (farm .seats) place s ℓ p (bit (losers farm) (p .0)) (ap (λ (x : Place). x .latest) f)
-          ∙ rw f
+pub same-settled : (farm : Farm) (ℓ : Time) (p q : Seat) → p .0 < farm .seats → q .0 < farm .seats → ℓ .0 ≤ farm .rounds
+    → knownOf farm p ℓ ≡ knownOf farm q ℓ → settledIn byValue 0 farm p ℓ ≡ settledIn byValue 0 farm q ℓ
+same-settled farm ℓ p q hp hq early e =
+    settled-valued farm p ℓ 0 (is-place farm p ℓ hp early)
+    ∙ ap (λ (known : Seats). ofOutcome (settle farm (ℓ .0) known)) e
+    ∙ sym (settled-valued farm q ℓ 0 (is-place farm q ℓ hq early))
+
+pub same-place : (farm : Farm) (seats times sets : List ℕ) (ℓ : Time) (p q : Seat) (place : Place) → farm .seats ≤ room
+    → p .0 < farm .seats → q .0 < farm .seats → ℓ .0 ≤ farm .rounds → sets ≡ counts (farm .seats) (knownSets farm ℓ)
+    → getD sets (p .0) 0 ≡ getD sets (q .0) 0
+    → place ≡ placeAnswer (farm .seats) seats times (settledIn byValue 0 farm p ℓ)
+    → place ≡ placeAnswer (farm .seats) seats times (settledIn byValue 0 farm q ℓ)
+unfolding knownSets
+same-place farm seats times sets ℓ p q place small hp hq early e same f =
+    let known : (s : Seat) → s .0 < farm .seats → getD sets (s .0) 0 ≡ knownOf farm s ℓ =
+    λ s h. rw e (counts-at (farm .seats) (knownSets farm ℓ) (s .0) small h) in
+    f ∙ ap (placeAnswer (farm .seats) seats times) (same-settled farm ℓ p q hp hq early (sym (known p hp) ∙ same ∙ known q hq))

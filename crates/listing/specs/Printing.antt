@@ -13,9 +13,14 @@ use Rattle.knowledge.specs.Farm.{losers}
 use Rattle.construction.specs.Counts.{farmFor}
 use Rattle.construction.specs.declared.sizes.Sizes.{Sizes}
 use Rattle.questions.specs.Accepted.{Accepted}
+use Rattle.questions.specs.Answers.{placeAnswer}
 use Rattle.questions.specs.Marks.{countIn}
+use Rattle.questions.specs.Question.{byValue, settledIn}
+use Rattle.questions.specs.declared.answers.Given.{Given}
+use Rattle.questions.specs.declared.answers.Given.the-variants.{Done, Refused}
 use Rattle.questions.specs.declared.answers.Place.{Place}
 use Rattle.page.specs.Digits.{Text}
+use Rattle.page.specs.Lines.{placeLine, overLine}
 use Rattle.page.specs.Printing.{lineRoom, written}
 use Rattle.page.specs.declared.lines.PlaceLine.{PlaceLine}
 use Rattle.page.specs.declared.lines.Printed.{Printed}
@@ -67,6 +72,18 @@ lineFrom place seats time seat loser =
       core = place .latest;
       count = place .count;
     }
+
+-- The line of what was asked of a place: its numbers, or `over` where it was refused.
+unfoldable pub lineGiven : Given → PlaceLine → Text
+lineGiven Done line = placeLine line
+lineGiven (Refused refusal) line = overLine (line .time) (line .seat) (line .loser)
+
+abbrev pub lineIn : Place → (seats : ℕ) → Time → Seat → Bool → Text
+lineIn place seats time seat loser = lineGiven (place .given) (lineFrom place seats time seat loser)
+
+-- What is asked of a place of the record.
+abbrev pub placeOf : Sizes → (losses seats times : List ℕ) → Seat → Time → Place
+placeOf sizes losses seats times p ℓ = placeAnswer (sizes .seats) seats times (settledIn byValue 0 (farmFor sizes losses) p ℓ)
 
 -- Where a line ends; of no line, which has no end, any number will do.
 abbrev pub endIn : Printed → ℕ
