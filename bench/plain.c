@@ -580,20 +580,58 @@ static unsigned count_edits(const struct view *core, const uint8_t *editors, con
     return count;
 }
 
-static uint8_t *put_place_line(uint8_t *out, const struct farm *farm, bool loser, unsigned time, unsigned seat,
-                               const uint8_t *editors, const uint16_t *times, unsigned edits)
+// The edits of a record, by their places.
+struct places {
+    const uint8_t *editors;
+    const uint16_t *times;
+    unsigned edits;
+};
+
+// What the page says of a place.
+struct place {
+    enum refusal refusal;
+    struct settled settled;
+    unsigned count;
+};
+
+static void ask_place(const struct farm *farm, const struct places *places, unsigned seat, unsigned time,
+                      struct place *place)
+{
+    place->refusal = settle(farm, seat, time, &place->settled);
+    if (!place->refusal)
+        place->count = count_edits(&place->settled.core, places->editors, places->times, places->edits);
+}
+
+static uint8_t *put_place_line(uint8_t *out, const struct place *place, bool loser, unsigned seats, unsigned time,
+                               unsigned seat)
 {
     out = put_word(put_decimal(out, time), " ");
     out = put_word(put_decimal(out, seat), loser ? " L" : " C");
-    struct settled settled;
-    if (settle(farm, seat, time, &settled))
+    if (place->refusal)
         return put_word(out, " over\n");
-    out = put_signed(put_word(out, " "), settled.critical);
-    out = put_decimal(put_word(out, " "), settled.steps);
-    for (unsigned q = 0; q < farm->seats; q++)
-        out = put_signed(put_word(out, " "), settled.core.of[q] - 1);
-    out = put_decimal(put_word(out, " "), count_edits(&settled.core, editors, times, edits));
+    out = put_signed(put_word(out, " "), place->settled.critical);
+    out = put_decimal(put_word(out, " "), place->settled.steps);
+    for (unsigned q = 0; q < seats; q++)
+        out = put_signed(put_word(out, " "), place->settled.core.of[q] - 1);
+    out = put_decimal(put_word(out, " "), place->count);
     return put_word(out, "\n");
+}
+
+// The lines of a time. A known set is settled once for the seats in a row that share it.
+static uint8_t *put_time_lines(uint8_t *out, const struct farm *farm, const struct places *places, unsigned losers,
+                               unsigned time)
+{
+    struct views views = views_at(farm, time);
+    struct place place;
+    unsigned before = 0;
+    for (unsigned seat = 0; seat < farm->seats; seat++) {
+        unsigned known = known_in(farm, &views.of[seat]);
+        if (seat == 0 || known != before)
+            ask_place(farm, places, seat, time, &place);
+        out = put_place_line(out, &place, losers >> seat & 1, farm->seats, time, seat);
+        before = known;
+    }
+    return out;
 }
 
 uint8_t plain_page(const uint8_t *bytes, size_t bytes_count, uint8_t *out, size_t out_count, size_t *length)
@@ -615,9 +653,9 @@ uint8_t plain_page(const uint8_t *bytes, size_t bytes_count, uint8_t *out, size_
     struct farm farm = {header.seats, header.bound, losses};
     unsigned losers = losers_by(&farm, header.rounds);
     uint8_t *end = put_header_line(out, header);
+    struct places places = {editors, times, header.edits};
     for (unsigned time = 0; time <= header.rounds; time++)
-        for (unsigned seat = 0; seat < header.seats; seat++)
-            end = put_place_line(end, &farm, losers >> seat & 1, time, seat, editors, times, header.edits);
+        end = put_time_lines(end, &farm, &places, losers, time);
     *length = end - out;
     return ACCEPTED;
 }
