@@ -1,6 +1,6 @@
 -- Condition 3 of the answers: at a place of a good record the question comes through to the construction, whose outcomes agree.
 -- Assumes nothing.
-use mathlib.Core.Path.{_≡_, refl, sym, _∙_, ap}
+use mathlib.Core.Path.{_≡_, refl, ap}
 use mathlib.Core.Bool.{Bool, true, false}
 use Prim.Native.Nat.{ℕ, _≤_, _<_}
 use native.Mathlib.Omega.{arith}
@@ -19,8 +19,8 @@ use Rattle.record.specs.declared.edits.Edit.{Edit}
 use Rattle.record.specs.Good.{goodRecord}
 use Rattle.record.specs.Record.{Record, good}
 use Rattle.record.proofs.GoodLaws.{record-facts, header-facts}
-use Rattle.questions.specs.Question.{Asked, Lent, byValue, found, provided, fits, isPlace, ofOutcome, looking, farmOfRecord, inCore, settledIn, settledAsked, onRecord}
-use Rattle.conditions.specs.Honest.{WithinBound, Honest, ToldAlike, Honest-seats-are-told-alike, Seen-edits-are-agreed}
+use Rattle.questions.specs.Question.{Lent, byValue, found, provided, fits, isPlace, ofOutcome, looking, farmOfRecord, inCore, settledIn, settledAsked, onRecord}
+use Rattle.conditions.specs.Honest.{ToldAlike, Honest-seats-are-told-alike, Seen-edits-are-agreed}
 
 -- ════ What a good record has ════
 

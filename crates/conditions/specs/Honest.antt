@@ -2,7 +2,7 @@
 -- and on the live table alike, since all of them ask a record that was read.
 use mathlib.Core.Path.{_≡_}
 use mathlib.Core.Bool.{true}
-use Prim.Native.Nat.{ℕ, _+_, _≤_}
+use Prim.Native.Nat.{_+_, _≤_}
 use Rattle.farm.specs.Limits.{limits}
 use Rattle.farm.specs.declared.places.Seat.{Seat}
 use Rattle.farm.specs.declared.places.Time.{Time}
@@ -13,7 +13,7 @@ use Rattle.knowledge.specs.Promises.{FewLosersBy}
 use Rattle.record.specs.declared.edits.Edit.{Edit}
 use Rattle.record.specs.Good.{goodRecord}
 use Rattle.record.specs.Record.{Record, good}
-use Rattle.questions.specs.Question.{Lent, byValue, found, farmOfRecord, inCore, settledAsked, coreAsked, marksAsked, countAsked}
+use Rattle.questions.specs.Question.{Lent, found, farmOfRecord, inCore, settledAsked, coreAsked, marksAsked, countAsked}
 
 -- The premise: a good record in which at most t seats ever lose a send.
 pub record WithinBound (r : Record) : Type 0 where

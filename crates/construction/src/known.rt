@@ -2,7 +2,6 @@
 use crate::losses::was_lost;
 use crate::sets::with_seat;
 use crate::sizes::Sizes;
-use crate::views::Counts;
 use crate::views::ROOM;
 use crate::views::TABLE;
 use crate::views::seat_view;

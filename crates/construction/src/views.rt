@@ -7,17 +7,14 @@ use crate::sizes::Sizes;
 use farm::limits::MOST_SEATS;
 use farm::places::Seat;
 use farm::places::Time;
-use farm::sets::holds;
 ghost use mathlib.Core.Path.{_≡_};
 ghost use mathlib.Core.Bool.{cond};
 ghost use Prim.Native.Nat.{suc, max, _≤_, _<_};
 ghost use lib.IntN.{pos};
 ghost use Rattle.farm.specs.Limits.{limits};
 ghost use Rattle.farm.specs.Sets.{bit};
-ghost use Rattle.knowledge.specs.Farm.{place};
-ghost use Rattle.knowledge.specs.Settled.{hasPlace};
 ghost use Rattle.knowledge.specs.Views.{upTo, joined, viewOf, viewsOf};
-ghost use Rattle.construction.specs.Counts.{counts, held, viewIn, arrivals, farmFor, allCounts, viewsTo, firstCounts};
+ghost use Rattle.construction.specs.Counts.{counts, viewIn, arrivals, farmFor, allCounts, viewsTo, firstCounts};
 
 // Room for one view, and for the views of all seats.
 pub const ROOM: usize = MOST_SEATS as usize;

@@ -15,7 +15,7 @@ ghost use lib.ListN.{length};
 ghost use Rattle.farm.specs.Limits.{limits};
 ghost use Rattle.construction.specs.Counts.{farmFor, held};
 ghost use Rattle.questions.specs.Marks.{markAt, marksIn, countIn};
-ghost use Rattle.questions.specs.Question.{byValue, buffer};
+ghost use Rattle.questions.specs.Question.{buffer};
 ghost use Rattle.questions.specs.Accepted.{Accepted, marksOn, countOn};
 ghost use Rattle.questions.specs.Answers.{laid, countAnswer, givenAnswer, into};
 

@@ -1,18 +1,17 @@
 -- Cursors instead of rests: a taking at a place, byte by byte, and where the next one begins.
 -- Assumes nothing.
-use mathlib.Core.Path.{_≡_, refl, sym, _∙_, ap, ap₂}
+use mathlib.Core.Path.{_≡_, refl, sym, _∙_, ap}
 use mathlib.Core.Bool.{Bool, true, false, _||_}
-use mathlib.Core.List.{List, [], _∷_, _++_}
-use Prim.Native.Nat.{ℕ, zero, suc, _+_, _-_, _*_, _<_, _≤_}
+use mathlib.Core.List.{List, _∷_}
+use Prim.Native.Nat.{ℕ, zero, suc, _+_, _-_, _<_, _≤_}
 use native.Mathlib.Numerals.{add-one}
 use native.Mathlib.Omega.{arith}
 use lib.Dec.{ltb}
 use lib.ListN.{length, getD, drop, length-drop, drop-of-length-le}
 use lib.Seq.{drop-cons}
-use borrow.Author.Tests.{lt-ltb, le-ltb}
 use Rattle.farm.specs.Limits.{limits}
 use Rattle.farm.specs.declared.refusals.Refusal.{Refusal}
-use Rattle.farm.specs.declared.refusals.Refusal.the-variants.{EndsEarly, BadForm, OutOfRange}
+use Rattle.farm.specs.declared.refusals.Refusal.the-variants.{EndsEarly, BadForm}
 use Rattle.record.specs.declared.numbers.Cursor.{Cursor}
 use Rattle.record.specs.declared.numbers.Number.{Number}
 use Rattle.record.specs.declared.numbers.Number.the-variants.{Value, Refused}
@@ -21,7 +20,7 @@ use Rattle.record.specs.declared.numbers.Passed.the-variants.{To, Refuse
 use Rattle.record.specs.Taking.{Taken, value, refused, _>>=_, when}
 use Rattle.record.specs.Numbers.{takeGroups, lastGroup, withGroup, takeNumber, takeWithin}
 use Rattle.record.specs.Cursors.{cursorAt, numberIn, numberAt, withinAt, refusalIn, passedIn, passedRefusalIn}
-use Rattle.record.proofs.TakingLaws.{Tail, tail-drop, tail-short, tail-trans, tail-of-drop}
+use Rattle.record.proofs.TakingLaws.{Tail, tail-drop, tail-trans, tail-of-drop}
 use Rattle.record.proofs.NumberLaws.{take-last, take-more, take-too-long, last-good, number-tail, within-value}
 
 -- The rest after a place begins at that place.

@@ -1,12 +1,12 @@
 -- The laws of edits: their order, the four fields of one, and a list of them, edit by edit.
 -- Assumes nothing.
 use mathlib.Core.Path.{_≡_, refl, sym, _∙_, ap}
-use mathlib.Core.Bool.{Bool, true, false, _&&_, _||_}
-use mathlib.Core.List.{List, [], _∷_, _++_}
+use mathlib.Core.Bool.{Bool, true, false, _||_}
+use mathlib.Core.List.{List, _∷_}
 use Prim.Native.Nat.{ℕ, zero, suc, _+_, _-_, _<_, _≤_}
 use native.Mathlib.Nat.{le-of-eq}
 use native.Mathlib.Omega.{arith}
-use lib.Dec.{ltb, eqb}
+use lib.Dec.{ltb}
 use lib.ListN.{length, drop}
 use borrow.Author.Tests.{eq-eqb, ne-eqb, le-ltb}
 use Rattle.farm.specs.Limits.{Limits, limits}
@@ -14,7 +14,7 @@ use Rattle.farm.specs.declared.refusals.Refusal.{Refusal}
 use Rattle.farm.specs.declared.refusals.Refusal.the-variants.{BadOrder}
 use Rattle.record.specs.declared.edits.Edit.{Edit}
 use Rattle.record.specs.declared.edits.Before.{Before}
-use Rattle.record.specs.declared.edits.Before.the-variants.{Nothing, This}
+use Rattle.record.specs.declared.edits.Before.the-variants.{This}
 use Rattle.record.specs.declared.edit_reader.EditRead.{EditRead}
 use Rattle.record.specs.declared.edit_reader.EditRead.the-variants.{Edit as EditFound, Refused as EditRefused}
 use Rattle.record.specs.declared.numbers.Cursor.{Cursor}
@@ -24,7 +24,7 @@ use Rattle.record.specs.Numbers.{takeWithin}
 use Rattle.record.specs.Changes.{mapped, unmapped}
 use Rattle.record.specs.Edits.{rises, follows, takeEdit, takeEdits}
 use Rattle.record.specs.Cursors.{cursorAt, editIn, editRefusalIn, passedIn}
-use Rattle.record.proofs.TakingLaws.{bind-value, when-value, Tail, tail-all, tail-trans, tail-of-drop, tail-drop}
+use Rattle.record.proofs.TakingLaws.{bind-value, when-value, Tail, tail-all, tail-trans, tail-of-drop}
 use Rattle.record.proofs.NumberLaws.{within-tail}
 use Rattle.record.proofs.ChangeLaws.{mapped-unmapped}
 use Rattle.record.proofs.CursorLaws.{cursor-drop, Placed, placed, passed-mapped}

@@ -1,19 +1,19 @@
 -- The second pass over a good record: each turn takes what the first pass took, and puts it in its place.
 -- Assumes nothing.
 use mathlib.Core.Path.{_≡_, refl, sym, _∙_, ap, ap₂, subst}
-use mathlib.Core.List.{List, [], _∷_, _++_, append-assoc}
-use Prim.Native.Nat.{ℕ, zero, suc, _+_, _-_, _*_, _<_, _≤_}
+use mathlib.Core.List.{List, [], _∷_}
+use Prim.Native.Nat.{ℕ, suc, _+_, _-_, _<_, _≤_}
 use native.Mathlib.Nat.{sub-zero}
 use native.Mathlib.Omega.{arith}
 use lib.ListN.{length, drop, set, length-set}
-use Rattle.farm.specs.Limits.{Limits, limits}
+use Rattle.farm.specs.Limits.{limits}
 use Rattle.farm.specs.declared.refusals.Refusal.{Refusal}
 use Rattle.farm.specs.declared.refusals.Refusal.the-variants.{BadOrder}
 use Rattle.record.specs.declared.numbers.Passed.the-variants.{To}
 use Rattle.record.specs.declared.edits.Edit.{Edit}
 use Rattle.record.specs.declared.edits.Before.{Before}
 use Rattle.record.specs.declared.edits.Before.the-variants.{Nothing, This}
-use Rattle.record.specs.Taking.{Taken, value, refused, _>>=_, when}
+use Rattle.record.specs.Taking.{value, refused, _>>=_, when}
 use Rattle.record.specs.Numbers.{takeNumber}
 use Rattle.record.specs.Edits.{follows, takeEdit, takeEdits}
 use Rattle.record.specs.Filling.{Gives, given, takeNumbers, AllBelow}

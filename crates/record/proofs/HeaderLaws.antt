@@ -1,11 +1,11 @@
 -- The header comes apart into its four numbers, each in its range.
 -- Assumes nothing.
-use mathlib.Core.Path.{_≡_, refl, sym, _∙_, ap}
-use mathlib.Core.List.{List, _++_}
-use Prim.Native.Nat.{ℕ, _-_, _≤_}
+use mathlib.Core.Path.{_≡_, _∙_, ap}
+use mathlib.Core.List.{List}
+use Prim.Native.Nat.{ℕ, _-_}
 use Rattle.farm.specs.Limits.{Limits}
 use Rattle.record.specs.declared.header.Header.{Header}
-use Rattle.record.specs.Taking.{Taken, value, refused, _>>=_}
+use Rattle.record.specs.Taking.{value, _>>=_}
 use Rattle.record.specs.Numbers.{takeWithin}
 use Rattle.record.specs.Header.{takeHeader}
 use Rattle.record.proofs.TakingLaws.{bind-value, Tail, tail-trans}

@@ -1,17 +1,17 @@
 -- The laws of loss sets: how a round and the rounds come apart, set by set.
 -- Assumes nothing.
-use mathlib.Core.Path.{_≡_, refl, sym, _∙_, ap, ap₂}
+use mathlib.Core.Path.{_≡_, sym, _∙_, ap₂}
 use mathlib.Core.Logic.{_⊎_, inl, inr}
 use mathlib.Core.Bool.{Bool, true, false, not, _&&_}
-use mathlib.Core.List.{List, [], _∷_, _++_}
-use Prim.Native.Nat.{ℕ, zero, suc, _+_, _-_, _*_, _/_, _^_, _<_, _≤_}
+use mathlib.Core.List.{List, _∷_, _++_}
+use Prim.Native.Nat.{ℕ, zero, suc, _+_, _-_, _/_, _^_, _<_, _≤_}
 use native.Mathlib.Nat.{div-lt-iff-lt-mul, div-eq-of-lt, one-mul}
 use native.Mathlib.Numerals.{add-one}
 use native.Mathlib.Omega.{arith}
 use lib.Dec.{ltb, lit<}
 use lib.Pow.{pow-pos}
 use lib.ListN.{length, drop}
-use borrow.Author.Tests.{lt-ltb, le-ltb, ltb-true}
+use borrow.Author.Tests.{lt-ltb, le-ltb}
 use Rattle.farm.specs.Limits.{Limits, limits}
 use Rattle.farm.specs.Sets.{Seats, bit}
 use Rattle.farm.specs.declared.refusals.Refusal.{Refusal}
@@ -20,7 +20,7 @@ use Rattle.farm.proofs.Cases.{less-or-not}
 use Rattle.record.specs.declared.numbers.Cursor.{Cursor}
 use Rattle.record.specs.declared.numbers.Number.the-variants.{Value}
 use Rattle.record.specs.declared.numbers.Passed.the-variants.{To, Refused as PassedRefused}
-use Rattle.record.specs.Taking.{Taken, value, refused, _>>=_, when}
+use Rattle.record.specs.Taking.{value, refused, _>>=_, when}
 use Rattle.record.specs.Numbers.{takeNumber}
 use Rattle.record.specs.Losses.{goodSet, takeSet, takeRound, takeRounds}
 use Rattle.record.specs.Cursors.{numberIn, passedIn}

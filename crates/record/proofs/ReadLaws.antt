@@ -1,18 +1,18 @@
 -- A good reading and its parts, as the second pass meets them.
 -- Assumes nothing.
 use mathlib.Core.Path.{_≡_, refl, sym, _∙_, ap, ap₂, subst}
-use mathlib.Core.Bool.{Bool, true, false, cond, _&&_}
+use mathlib.Core.Bool.{Bool, true, false}
 use mathlib.Core.List.{List, [], _∷_, _++_}
 use Prim.Native.Nat.{ℕ, zero, suc, _+_, _-_, _*_, _^_, _<_, _≤_}
 use native.Mathlib.Nat.{lt-of-lt-of-le, pow-le-pow-right, suc-mul, zero-mul, zero-add, suc-add, add-comm, mul-le-mul}
 use native.Mathlib.Omega.{arith}
 use lib.Dec.{leb, ltb, lit<}
 use lib.ListN.{length, drop}
-use borrow.Author.Tests.{leb-true, le-leb, lt-leb, ltb-true}
+use borrow.Author.Tests.{leb-true, le-leb, ltb-true}
 use Rattle.farm.specs.Limits.{Limits, limits}
-use Rattle.farm.specs.Sets.{Seats, bit}
+use Rattle.farm.specs.Sets.{Seats}
 use Rattle.farm.specs.declared.refusals.Refusal.{Refusal}
-use Rattle.farm.proofs.Cases.{and-elim, and-intro}
+use Rattle.farm.proofs.Cases.{and-elim}
 use Rattle.record.specs.declared.numbers.Cursor.{Cursor}
 use Rattle.record.specs.declared.numbers.Passed.the-variants.{To}
 use Rattle.record.specs.declared.header.Header.{Header}
@@ -30,7 +30,7 @@ use Rattle.record.specs.Cursors.{cursorAt, passedIn, checkedOf}
 use Rattle.record.specs.declared.read.Checked.{Checked}
 use Rattle.record.specs.declared.read.Checked.the-variants.{Good, Refused as CheckedRefused}
 use Rattle.farm.specs.declared.refusals.Refusal.the-variants.{NoRoom}
-use Rattle.record.proofs.TakingLaws.{bind-value, value-not-refused, Tail, tail-drop, tail-short}
+use Rattle.record.proofs.TakingLaws.{bind-value, Tail, tail-drop}
 use Rattle.record.proofs.LossLaws.{set-took, rounds-tail}
 use Rattle.record.proofs.RecordLaws.{from, from-is, Head}
 

@@ -2,7 +2,7 @@
 -- Assumes nothing.
 use mathlib.Core.Path.{_≡_, refl, sym, _∙_, ap}
 use mathlib.Core.List.{List, [], _∷_}
-use Prim.Native.Nat.{ℕ, zero, suc, _-_, _<_, _≤_}
+use Prim.Native.Nat.{ℕ, _-_, _<_, _≤_}
 use native.Mathlib.Nat.{le-refl}
 use native.Mathlib.Omega.{arith}
 use lib.ListN.{length, take, drop, length-drop, drop-of-length-le}
@@ -23,11 +23,11 @@ use Rattle.record.specs.Taking.{Taken, value, refused, _>>=_}
 use Rattle.record.specs.Header.{takeHeader}
 use Rattle.record.specs.Losses.{takeRounds}
 use Rattle.record.specs.Edits.{takeEdits}
-use Rattle.record.specs.Record.{Record, Reading, good, bad, takeRecord, whole, readingOf}
+use Rattle.record.specs.Record.{good, bad, takeRecord, whole, readingOf}
 use Rattle.record.specs.Cursors.{cursorAt, headerIn, headerRefusalIn, passedIn, passedRefusalIn}
-use Rattle.record.proofs.TakingLaws.{bind-value, Tail}
+use Rattle.record.proofs.TakingLaws.{Tail}
 use Rattle.record.proofs.NumberLaws.{within-value}
-use Rattle.record.proofs.CursorLaws.{Placed, placed, passed-was, passed-was-refused, passed-refusal-passed}
+use Rattle.record.proofs.CursorLaws.{placed, passed-was, passed-was-refused, passed-refusal-passed}
 use Rattle.record.proofs.HeaderLaws.{header-took, header-tail}
 use Rattle.record.proofs.LossLaws.{rounds-tail}
 use Rattle.record.proofs.EditLaws.{edits-tail}

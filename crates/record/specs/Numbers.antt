@@ -2,7 +2,7 @@
 use mathlib.Core.Bool.{Bool, true, false, cond, _&&_, _||_}
 use mathlib.Core.List.{List, [], _∷_}
 use Prim.Native.Nat.{ℕ, zero, suc, _+_, _-_, _*_, _/_, _%_}
-use lib.Dec.{eqb, leb, ltb}
+use lib.Dec.{leb, ltb}
 use Rattle.farm.specs.Limits.{Limits}
 use Rattle.farm.specs.declared.refusals.Refusal.the-variants.{EndsEarly, BadForm, OutOfRange}
 use Rattle.record.specs.Taking.{Taken, value, refused, _>>=_, when}

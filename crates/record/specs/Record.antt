@@ -1,7 +1,6 @@
 -- A record, what reading a byte string gives, and what a record's bytes are.
 use mathlib.Core.List.{List, [], _∷_, _++_}
 use Prim.Native.Nat.{ℕ}
-use lib.ListN.{length}
 use Rattle.farm.specs.Limits.{Limits}
 use Rattle.farm.specs.Sets.{Seats}
 use Rattle.farm.specs.declared.refusals.Refusal.{Refusal}

@@ -3,7 +3,6 @@
 use Prim.Native.Nat.{_≤_}
 use native.Mathlib.Omega.{arith}
 use borrow.Author.Needs.{needs}
-use lib.ListN.{length}
 use Rattle.page.specs.Lines.{headerLine}
 use Rattle.page.specs.Printing.{Puts}
 use Rattle.page.proofs.PrintLaws.{puts-then}

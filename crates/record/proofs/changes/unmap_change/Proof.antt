@@ -2,10 +2,9 @@
 -- Assumes nothing.
 use Rattle.record.proofs.ChangeLaws.{half-kept, below-half, even-unmapped, odd-unmapped}
 use mir.ValLaws.{toZ-ofZ}
-use mir.Val.{SFits, toZ, ofZ}
 use mir.Syntax.{w16}
 use native.Mathlib.Omega.{arith}
-use mathlib.Core.Path.{sym, _∙_, ap}
+use mathlib.Core.Path.{sym, _∙_}
 use borrow.Author.Needs.{needs}
 use Rattle.record.proofs.changes.unmap_change.Statement.{statement}
 use Rattle.record.proofs.changes.unmap_change.Tie as tie

@@ -8,11 +8,10 @@ use Rattle.record.proofs.CursorLaws.{Field, field-was, field-refused, c
 use Rattle.record.specs.Cursors.{editIn}
 use Rattle.record.specs.Edits.{takeEdit}
 use Rattle.record.specs.Taking.{_>>=_}
-use Rattle.farm.specs.Limits.{limits}
 use denote.Ref.{now}
 use native.Mathlib.Omega.{arith}
-use Prim.Native.Nat.{ℕ, _-_}
-use mathlib.Core.Path.{_≡_, sym, _∙_, ap}
+use Prim.Native.Nat.{_-_}
+use mathlib.Core.Path.{_∙_, ap}
 use borrow.Author.Needs.{needs}
 use Rattle.record.proofs.edit_reader.read_edit.Statement.{statement}
 use Rattle.record.proofs.edit_reader.read_edit.Tie as tie

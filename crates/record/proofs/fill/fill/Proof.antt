@@ -1,12 +1,12 @@
 -- `record::fill::fill` meets its contract: the parts stand where the first pass found them, so each fill takes what that pass took.
 -- Assumes nothing.
-use Rattle.record.proofs.ReadLaws.{Parts, good-parts, Ready, ready, sets-ready, EditsReady, edits-ready, room, tables-filled}
+use Rattle.record.proofs.ReadLaws.{good-parts, Ready, ready, sets-ready, EditsReady, edits-ready, room, tables-filled}
 use Rattle.record.proofs.RecordLaws.{Head, header-was, header-was-refused}
 use Rattle.record.proofs.TakingLaws.{value-not-refused}
 use Rattle.farm.specs.Limits.{limits}
 use denote.Ref.{now}
 use native.Mathlib.Omega.{arith}
-use mathlib.Core.Path.{_≡_, sym, _∙_, refl}
+use mathlib.Core.Path.{sym, _∙_, refl}
 use borrow.Author.Needs.{needs}
 use Rattle.record.proofs.fill.fill.Statement.{statement}
 use Rattle.record.proofs.fill.fill.Tie as tie

@@ -3,7 +3,6 @@
 use mir.ValLaws.{toZ-ofZ}
 use mir.Val.{SFits}
 use mir.Syntax.{w16}
-use Prim.Native.Nat.{ℕ}
 use mathlib.Core.Path.{refl}
 use Rattle.record.proofs.FillLaws.{EditsLeft, edits-start, edits-filled, edits-on, edits-give, edits-no-stop}
 use Rattle.record.proofs.EditLaws.{edit-was, edit-was-refused}
@@ -11,9 +10,8 @@ use Rattle.record.specs.Tables.{tables}
 use denote.Ref.{now}
 use borrow.Author.Needs.{needs}
 use native.Mathlib.Omega.{arith}
-use Prim.Native.Nat.{_-_, _≤_}
+use Prim.Native.Nat.{_-_}
 use mathlib.Core.List.{[]}
-use mathlib.Core.Path.{_≡_, sym, _∙_}
 use Rattle.record.proofs.fill.fill_edits.Statement.{statement}
 use Rattle.record.proofs.fill.fill_edits.Tie as tie
 

@@ -6,8 +6,8 @@ use Rattle.record.specs.Cursors.{numberAt}
 use denote.Ref.{now}
 use borrow.Author.Needs.{needs}
 use native.Mathlib.Omega.{arith}
-use Prim.Native.Nat.{_-_, _≤_}
-use mathlib.Core.Path.{_≡_, sym, _∙_}
+use Prim.Native.Nat.{_-_}
+use mathlib.Core.Path.{sym, _∙_}
 use Rattle.record.proofs.fill.fill_losses.Statement.{statement}
 use Rattle.record.proofs.fill.fill_losses.Tie as tie
 

@@ -12,7 +12,7 @@ use Rattle.record.specs.Taking.{_>>=_}
 use denote.Ref.{now}
 use native.Mathlib.Omega.{arith}
 use Prim.Native.Nat.{_-_}
-use mathlib.Core.Path.{_≡_, _∙_, ap}
+use mathlib.Core.Path.{_∙_, ap}
 use borrow.Author.Needs.{needs}
 use Rattle.record.proofs.fill.read_accepted.Statement.{statement}
 use Rattle.record.proofs.fill.read_accepted.Tie as tie

@@ -4,12 +4,9 @@ use Rattle.record.proofs.CursorLaws.{Field, field-was, field-refused, c
 use Rattle.record.specs.Cursors.{headerIn}
 use Rattle.record.specs.Header.{takeHeader}
 use Rattle.record.specs.Taking.{_>>=_}
-use Rattle.farm.specs.Limits.{limits}
 use denote.Ref.{now}
 use native.Mathlib.Omega.{arith}
-use Prim.Native.Nat.{ℕ, _-_}
-use mathlib.Core.List.{List}
-use mathlib.Core.Path.{_≡_, sym, _∙_, ap, ap₂}
+use Prim.Native.Nat.{_-_}
 use borrow.Author.Needs.{needs}
 use Rattle.record.proofs.header.read_header.Statement.{statement}
 use Rattle.record.proofs.header.read_header.Tie as tie

@@ -7,7 +7,7 @@ use Rattle.record.specs.Taking.{when}
 use Rattle.farm.specs.Limits.{limits}
 use denote.Ref.{now}
 use mathlib.Core.Bool.{true, false}
-use mathlib.Core.Path.{sym, _∙_, ap}
+use mathlib.Core.Path.{sym, _∙_}
 use borrow.Author.Needs.{needs}
 use Rattle.record.proofs.losses.read_set.Statement.{statement}
 use Rattle.record.proofs.losses.read_set.Tie as tie

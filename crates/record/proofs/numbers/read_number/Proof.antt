@@ -5,7 +5,6 @@ use Prim.Native.Nat.{_+_}
 use Rattle.record.proofs.CursorLaws.{ends-here, last-here, zero-here, more-here, too-long-here, number-refused, number-value}
 use Rattle.record.specs.Cursors.{numberAt}
 use Rattle.record.specs.Numbers.{takeNumber, withGroup}
-use Rattle.record.specs.Taking.{value}
 use denote.Ref.{now}
 use borrow.Author.Tests.{lt-ltb}
 use mathlib.Core.Bool.{true, false}

@@ -4,13 +4,11 @@ use Rattle.record.proofs.RecordLaws.{from, Head, header-was, header-was
 use Rattle.record.specs.Cursors.{checkedOf}
 use Rattle.record.specs.Edits.{takeEdits}
 use Rattle.record.specs.Losses.{takeRounds}
-use Rattle.record.specs.Taking.{value}
 use Rattle.record.specs.declared.edits.Before.the-variants.{Nothing}
 use Rattle.farm.specs.Limits.{limits}
 use denote.Ref.{now}
-use lib.ListN.{length}
 use native.Mathlib.Omega.{arith}
-use mathlib.Core.Path.{_≡_, sym, _∙_, ap}
+use mathlib.Core.Path.{sym, ap}
 use borrow.Author.Needs.{needs}
 use Rattle.record.proofs.read.check.Statement.{statement}
 use Rattle.record.proofs.read.check.Tie as tie

@@ -4,7 +4,7 @@ use Rattle.record.proofs.ReadLaws.{Room, enough, no-room, refused-readi
 use Rattle.record.specs.Tables.{Tables, tables}
 use denote.Ref.{now}
 use native.Mathlib.Omega.{arith}
-use mathlib.Core.Path.{_≡_, sym, _∙_}
+use mathlib.Core.Path.{sym, _∙_}
 use borrow.Author.Needs.{needs}
 use Rattle.record.proofs.read.read.Statement.{statement}
 use Rattle.record.proofs.read.read.Tie as tie
