@@ -1,5 +1,6 @@
 -- The number that stands for an answer, document 01's number of the refusal or 0 where there is none, and what is left behind
 -- a reference beside it. A refusal leaves what was there.
+use mathlib.Core.Path.{_≡_}
 use mathlib.Core.Bool.{cond}
 use mathlib.Core.List.{List, [], _∷_}
 use Prim.Native.Nat.{ℕ}
@@ -16,6 +17,9 @@ use Rattle.questions.specs.declared.answers.Given.{Given}
 use Rattle.questions.specs.declared.answers.Given.the-variants as given
 use Rattle.live.specs.declared.answers.Done.{Done}
 use Rattle.live.specs.declared.answers.Done.the-variants as done
+use Rattle.live.specs.declared.table.Table.{Table}
+use Rattle.live.specs.Answers.{doneOf}
+use Rattle.live.specs.Calls.{Call, answerTo, tableAfter}
 use Rattle.page.specs.Digits.{Text}
 use Rattle.page.specs.declared.lines.Printed.{Printed}
 use Rattle.page.specs.declared.lines.Printed.the-variants as printed
@@ -48,6 +52,10 @@ givenNumber (given.Refused refusal) = numberOf refusal
 abbrev pub doneNumber : Done → ℕ
 doneNumber done.Accepted = 0
 doneNumber (done.Refused refusal) = numberOf refusal
+
+-- How a live call ends: as `live`'s `Ends`, with the answer as its number.
+abbrev pub EndsWith : Call → (before : Table) (number : ℕ) (after : Table) → Type 0
+EndsWith call before number after = (number ≡ doneNumber (doneOf (answerTo call before))) × (after ≡ tableAfter call before)
 
 -- What printing a page answers, in a buffer of so many bytes.
 abbrev pub pagePrinted : (page : Text) (room : ℕ) → Printed

@@ -6,10 +6,8 @@ use live::steps::opened;
 use live::steps::with_edit;
 use live::steps::with_round;
 use live::table::Table;
-ghost use mathlib.Core.Path.{_≡_};
-ghost use Rattle.live.specs.Calls.{opening, round, edit, answerTo, tableAfter};
-ghost use Rattle.live.specs.Answers.{doneOf};
-ghost use Rattle.bindings.specs.Codes.{doneNumber};
+ghost use Rattle.live.specs.Calls.{opening, round, edit};
+ghost use Rattle.bindings.specs.Codes.{EndsWith};
 
 pub struct Coded {
     pub code: u8,
@@ -17,7 +15,7 @@ pub struct Coded {
 }
 
 pub fn coded_opening(table: Table, seats: u8, bound: u8) -> Coded
-    ensures { λ r. ⌜ (r .code ≡ doneNumber (doneOf (answerTo (opening seats bound) table))) × (r .table ≡ tableAfter (opening seats bound) table) ⌝ }
+    ensures { λ r. ⌜ EndsWith (opening seats bound) table (r .code) (r .table) ⌝ }
 {
     let step = opened(table, seats, bound);
     let answer = step.answer;
@@ -29,7 +27,7 @@ pub fn coded_opening(table: Table, seats: u8, bound: u8) -> Coded
 }
 
 pub fn coded_round(table: Table, sets: &[u16]) -> Coded
-    ensures { λ r. ⌜ (r .code ≡ doneNumber (doneOf (answerTo (round (now (sets .entry))) table))) × (r .table ≡ tableAfter (round (now (sets .entry))) table) ⌝ }
+    ensures { λ r. ⌜ EndsWith (round (now (sets .entry))) table (r .code) (r .table) ⌝ }
 {
     let step = with_round(table, sets);
     let answer = step.answer;
@@ -41,7 +39,7 @@ pub fn coded_round(table: Table, sets: &[u16]) -> Coded
 }
 
 pub fn coded_edit(table: Table, seat: u8, cell: u32, change: i16) -> Coded
-    ensures { λ r. ⌜ (r .code ≡ doneNumber (doneOf (answerTo (edit (record { 0 = seat }) cell change) table))) × (r .table ≡ tableAfter (edit (record { 0 = seat }) cell change) table) ⌝ }
+    ensures { λ r. ⌜ EndsWith (edit (record { 0 = seat }) cell change) table (r .code) (r .table) ⌝ }
 {
     let step = with_edit(table, Seat(seat), cell, change);
     let answer = step.answer;

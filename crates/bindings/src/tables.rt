@@ -4,15 +4,13 @@ use crate::coded::coded_edit;
 use crate::coded::coded_opening;
 use crate::coded::coded_round;
 use live::table::Table;
-ghost use mathlib.Core.Path.{_≡_};
-ghost use Rattle.live.specs.Calls.{opening, round, edit, answerTo, tableAfter};
-ghost use Rattle.live.specs.Answers.{doneOf};
-ghost use Rattle.bindings.specs.Codes.{doneNumber};
+ghost use Rattle.live.specs.Calls.{opening, round, edit};
+ghost use Rattle.bindings.specs.Codes.{EndsWith};
 
 // Opens a table in any state for a new record: 3.
 #[no_mangle]
 pub extern "C" fn ricecrock_open(table: &mut Table, seats: u8, bound: u8) -> u8
-    ensures { λ r. ⌜ (r ≡ doneNumber (doneOf (answerTo (opening seats bound) (now (table .entry))))) × (now (table .exit) ≡ tableAfter (opening seats bound) (now (table .entry))) ⌝ }
+    ensures { λ r. ⌜ EndsWith (opening seats bound) (now (table .entry)) r (now (table .exit)) ⌝ }
 {
     let step = coded_opening(*table, seats, bound);
     *table = step.table;
@@ -22,7 +20,7 @@ pub extern "C" fn ricecrock_open(table: &mut Table, seats: u8, bound: u8) -> u8
 // Adds a round, a loss set for each sender: 19, 11, 10, 4.
 #[no_mangle]
 pub extern "C" fn ricecrock_add_round(table: &mut Table, sets: &[u16]) -> u8
-    ensures { λ r. ⌜ (r ≡ doneNumber (doneOf (answerTo (round (now (sets .entry))) (now (table .entry))))) × (now (table .exit) ≡ tableAfter (round (now (sets .entry))) (now (table .entry))) ⌝ }
+    ensures { λ r. ⌜ EndsWith (round (now (sets .entry))) (now (table .entry)) r (now (table .exit)) ⌝ }
 {
     let step = coded_round(*table, sets);
     *table = step.table;
@@ -32,7 +30,7 @@ pub extern "C" fn ricecrock_add_round(table: &mut Table, sets: &[u16]) -> u8
 // Adds an edit at the present time: 19, 3, 12, 5.
 #[no_mangle]
 pub extern "C" fn ricecrock_add_edit(table: &mut Table, seat: u8, cell: u32, change: i16) -> u8
-    ensures { λ r. ⌜ (r ≡ doneNumber (doneOf (answerTo (edit (record { 0 = seat }) cell change) (now (table .entry))))) × (now (table .exit) ≡ tableAfter (edit (record { 0 = seat }) cell change) (now (table .entry))) ⌝ }
+    ensures { λ r. ⌜ EndsWith (edit (record { 0 = seat }) cell change) (now (table .entry)) r (now (table .exit)) ⌝ }
 {
     let step = coded_edit(*table, seat, cell, change);
     *table = step.table;
