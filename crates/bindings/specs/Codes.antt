@@ -9,10 +9,10 @@ use lib.ListN.{length}
 use Rattle.farm.specs.Refusals.{numberOf}
 use Rattle.farm.specs.declared.refusals.Refusal.the-variants.{NoRoom}
 use Rattle.record.specs.declared.header.Header.{Header}
-use Rattle.record.specs.declared.read.Checked.{Checked}
-use Rattle.record.specs.declared.read.Checked.the-variants as checked
-use Rattle.record.specs.declared.writing.Written.{Written}
-use Rattle.record.specs.declared.writing.Written.the-variants as written
+use Rattle.record.specs.declared.answers.Checked.{Checked}
+use Rattle.record.specs.declared.answers.Checked.the-variants as checked
+use Rattle.record.specs.declared.answers.Written.{Written}
+use Rattle.record.specs.declared.answers.Written.the-variants as written
 use Rattle.questions.specs.declared.answers.Given.{Given}
 use Rattle.questions.specs.declared.answers.Given.the-variants as given
 use Rattle.live.specs.declared.answers.Done.{Done}

@@ -4,8 +4,8 @@ use farm::refusals::number;
 use live::answers::Done;
 use page::lines::Printed;
 use questions::answers::Given;
-use record::read::Checked;
-use record::writing::Written;
+use record::answers::Checked;
+use record::answers::Written;
 ghost use mathlib.Core.Path.{_≡_};
 ghost use Rattle.bindings.specs.Codes.{checkedNumber, writtenNumber, givenNumber, doneNumber, printedNumber};
 

@@ -2,15 +2,16 @@
 // goes behind a reference, and stays as it was where the call is refused.
 use crate::codes::checked_number;
 use crate::codes::written_number;
-use record::read::Checked;
-use record::read::read;
-use record::writing::Written;
-use record::writing::write;
+use record::answers::Checked;
+use reading::tables::read;
+use record::answers::Written;
+use writing::lists::write;
 ghost use mathlib.Core.Path.{_≡_};
 ghost use lib.ListN.{length};
 ghost use Rattle.farm.specs.Limits.{limits};
-ghost use Rattle.record.specs.Answers.{listsOf, writtenIn};
-ghost use Rattle.record.specs.Cursors.{checkedOf};
+ghost use Rattle.record.specs.Writing.{listsOf};
+ghost use Rattle.record.specs.Answers.{writtenIn};
+ghost use Rattle.record.specs.Answers.{checkedOf};
 ghost use Rattle.record.specs.Tables.{tables, readInto, TablesRead};
 ghost use Rattle.record.specs.Writing.{writtenTo, bufferAfter};
 ghost use Rattle.bindings.specs.Codes.{checkedNumber, headerLeft, writtenNumber, lengthLeft};

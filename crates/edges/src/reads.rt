@@ -6,9 +6,9 @@ use crate::lines::say_signed;
 use crate::rooms::within;
 use farm::limits::TABLE_EDITS;
 use farm::limits::TABLE_LOSS_SETS;
-use record::read::Checked;
-use record::read::check;
-use record::read::read;
+use record::answers::Checked;
+use checking::whole::check;
+use reading::tables::read;
 
 fn say_checked(checked: Checked) {
     match checked {

@@ -9,10 +9,10 @@ use crate::rooms::within;
 use farm::limits::TABLE_EDITS;
 use farm::limits::TABLE_LOSS_SETS;
 use record::header::Header;
-use record::read::Checked;
-use record::read::read;
-use record::writing::Written;
-use record::writing::write;
+use record::answers::Checked;
+use reading::tables::read;
+use record::answers::Written;
+use writing::lists::write;
 
 const ROOM: usize = 16;
 

@@ -12,14 +12,15 @@ use Rattle.farm.specs.Refusals.{numberOf}
 use Rattle.farm.specs.declared.refusals.Refusal.{Refusal}
 use Rattle.construction.specs.Counts.{farmFor}
 use Rattle.record.specs.declared.header.Header.{Header}
-use Rattle.record.specs.declared.read.Checked.{Checked}
-use Rattle.record.specs.declared.read.Checked.the-variants.{Good, Refused}
+use Rattle.record.specs.declared.answers.Checked.{Checked}
+use Rattle.record.specs.declared.answers.Checked.the-variants.{Good, Refused}
 use Rattle.record.specs.Document.{readingOf}
 use Rattle.record.specs.Record.{Record, good, bad}
-use Rattle.record.specs.Tables.{Tables, ReadOutcome, seatsOf, timesOf}
+use Rattle.record.specs.Tables.{Tables, seatsOf, timesOf}
+use Rattle.reading.specs.Outcome.{ReadOutcome}
 use Rattle.record.specs.Taking.{IsBytes}
 use Rattle.record.proofs.ColumnLaws.{length-seats, length-times}
-use Rattle.record.proofs.ReadLaws.{Room}
+use Rattle.reading.proofs.ReadLaws.{Room}
 use Rattle.questions.specs.Accepted.{Accepted}
 use Rattle.questions.specs.Question.{countOf, farmOfRecord}
 use Rattle.questions.specs.Reading.{sizesOf}

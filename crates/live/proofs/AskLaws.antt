@@ -10,14 +10,15 @@ use Rattle.farm.specs.Limits.{limits}
 use Rattle.farm.specs.declared.places.Seat.{Seat}
 use Rattle.farm.specs.declared.places.Time.{Time}
 use Rattle.farm.specs.declared.refusals.Refusal.the-variants.{BadTable}
-use Rattle.record.specs.Answers.{listsOf, writtenIn}
+use Rattle.record.specs.Writing.{listsOf}
+use Rattle.record.specs.Answers.{writtenIn}
 use Rattle.record.specs.Columns.{tablesOf}
 use Rattle.record.specs.Good.{goodRecord}
 use Rattle.record.specs.Record.{Record, good, bad}
 use Rattle.record.specs.Tables.{Tables}
 use Rattle.record.specs.Writing.{checkedLists, answered, writtenTo, bufferWith, bufferAfter}
-use Rattle.record.specs.declared.writing.Written.{Written}
-use Rattle.record.specs.declared.writing.Written.the-variants.{Refused as NotWritten}
+use Rattle.record.specs.declared.answers.Written.{Written}
+use Rattle.record.specs.declared.answers.Written.the-variants.{Refused as NotWritten}
 use Rattle.record.proofs.ColumnLaws.{Columns, columns-from-edits}
 use Rattle.record.proofs.GoodLaws.{header-facts, record-facts}
 use Rattle.record.proofs.WritingLaws.{good-lists-accepted}

@@ -18,7 +18,7 @@ use Rattle.farm.specs.Sets.{Seats}
 use Rattle.farm.specs.declared.places.Seat.{Seat}
 use Rattle.farm.specs.declared.refusals.Refusal.{Refusal}
 use Rattle.farm.specs.declared.refusals.Refusal.the-variants.{OutOfRange, BadOrder, RoundsFull, EditsFull, BadTable}
-use Rattle.record.specs.Answers.{listsOf}
+use Rattle.record.specs.Writing.{listsOf}
 use Rattle.record.specs.Changes.{mapped}
 use Rattle.record.specs.Columns.{tablesOf}
 use Rattle.record.specs.Edits.{follows}

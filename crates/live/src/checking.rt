@@ -1,7 +1,7 @@
 // Refusal 19: whether the used part of a table is a good record. The table may hold anything, so its
 // sizes are tested before the used part is cut out of the arrays.
-use record::judging::Judged;
-use record::judging::judge;
+use record::answers::Judged;
+use judging::lists::judge;
 ghost use mathlib.Core.Path.{_≡_};
 ghost use Rattle.farm.specs.Limits.{limits};
 ghost use Rattle.record.specs.Good.{goodRecord};

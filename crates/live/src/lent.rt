@@ -21,7 +21,7 @@ use questions::answers::Known;
 use questions::answers::SettledAnswer;
 use questions::answers::Standing;
 use questions::answers::Times;
-use record::writing::Written;
+use record::answers::Written;
 ghost use mathlib.Core.Path.{_≡_};
 ghost use lib.ListN.{length};
 ghost use Rattle.farm.specs.Limits.{limits};

@@ -19,7 +19,7 @@ use live::lent::view_into_from;
 use live::lent::write_from;
 use live::table::Table;
 use questions::answers::Given;
-use record::writing::Written;
+use record::answers::Written;
 ghost use mathlib.Core.Path.{_≡_};
 ghost use lib.ListN.{length};
 

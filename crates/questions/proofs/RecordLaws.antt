@@ -16,22 +16,23 @@ use Rattle.knowledge.specs.Settled.{Settled}
 use Rattle.construction.specs.Counts.{farmFor}
 use Rattle.construction.specs.declared.sizes.Sizes.{Sizes}
 use Rattle.record.specs.declared.header.Header.{Header}
-use Rattle.record.specs.declared.judging.Judged.{Judged}
-use Rattle.record.specs.declared.judging.Judged.the-variants as judged-as
-use Rattle.record.specs.declared.read.Checked.{Checked}
-use Rattle.record.specs.declared.read.Checked.the-variants as checked-as
+use Rattle.record.specs.declared.answers.Judged.{Judged}
+use Rattle.record.specs.declared.answers.Judged.the-variants as judged-as
+use Rattle.record.specs.declared.answers.Checked.{Checked}
+use Rattle.record.specs.declared.answers.Checked.the-variants as checked-as
 use Rattle.record.specs.Taking.{IsBytes}
 use Rattle.record.specs.Record.{Record, Reading, good, bad}
 use Rattle.record.specs.Document.{readingOf}
-use Rattle.record.specs.Cursors.{checkedOf}
+use Rattle.record.specs.Answers.{checkedOf}
 use Rattle.record.specs.Good.{goodRecord}
-use Rattle.record.specs.Tables.{Tables, seatsOf, timesOf, readInto, tablesAfter, ReadOutcome}
+use Rattle.record.specs.Tables.{Tables, seatsOf, timesOf, readInto, tablesAfter}
+use Rattle.reading.specs.Outcome.{ReadOutcome}
 use Rattle.record.specs.Columns.{tablesOf}
 use Rattle.record.specs.Writing.{judgedLists, recordFrom, checkedLists, judged}
 use Rattle.record.specs.Answers.{judgedIn}
 use Rattle.record.proofs.GoodLaws.{record-facts, header-facts}
 use Rattle.record.proofs.ColumnLaws.{take-over, length-seats, length-times}
-use Rattle.record.proofs.ReadLaws.{Room, enough}
+use Rattle.reading.proofs.ReadLaws.{Room, enough}
 use Rattle.record.proofs.WrittenAgain.{reading-again}
 use Rattle.record.proofs.WritingLaws.{lists-accepted}
 use Rattle.record.proofs.AcceptedLaws.{answer-accepted, answer-refused}

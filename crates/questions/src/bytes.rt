@@ -21,7 +21,7 @@ use crate::views::ask_view;
 use crate::views::ask_view_into;
 use farm::places::Seat;
 use farm::places::Time;
-use record::read::Checked;
+use record::answers::Checked;
 ghost use mathlib.Core.Path.{_≡_};
 ghost use lib.ListN.{length};
 ghost use Rattle.record.specs.Document.{readingOf};

@@ -2,13 +2,13 @@
 // with the places of the edits, stay in lent lists.
 use construction::sizes::Sizes;
 use record::header::Header;
-use record::read::Checked;
-use record::read::read;
+use record::answers::Checked;
+use reading::tables::read;
 ghost use mathlib.Core.Path.{_≡_};
 ghost use Prim.Native.Nat.{_*_, _≤_};
 ghost use lib.ListN.{length};
 ghost use Rattle.farm.specs.Limits.{limits};
-ghost use Rattle.record.specs.Cursors.{checkedOf};
+ghost use Rattle.record.specs.Answers.{checkedOf};
 ghost use Rattle.record.specs.Document.{readingOf};
 ghost use Rattle.questions.specs.Reading.{lossesLeft, seatsLeft, timesLeft, sizesOf, lossCount};
 

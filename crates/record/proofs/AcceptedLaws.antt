@@ -1,22 +1,19 @@
--- What the answers of the judging code tell, what is known of accepted lists, and what the answers about length and room mean.
+-- What the answers of the judging code tell, what is known of accepted lists, and what the answer about length means.
 -- Assumes nothing.
-use mathlib.Core.Path.{_≡_, refl, _∙_, ap}
-use mathlib.Core.Bool.{true, false}
+use mathlib.Core.Path.{_≡_, refl, ap}
+use mathlib.Core.Bool.{true}
 use mathlib.Core.List.{List, [], _∷_}
 use Prim.Native.Nat.{ℕ, zero, suc, _+_, _*_, _^_, _<_, _≤_}
-use native.Mathlib.Nat.{zero-add, mul-le-mul}
+use native.Mathlib.Nat.{mul-le-mul}
 use native.Mathlib.Omega.{arith}
-use lib.Dec.{leb}
 use lib.ListN.{length, getD, length-append}
 use Rattle.farm.specs.Limits.{Limits, limits}
 use Rattle.farm.specs.declared.refusals.Refusal.{Refusal}
-use Rattle.farm.specs.declared.refusals.Refusal.the-variants.{OutOfRange, BadLengths, NoRoom}
+use Rattle.farm.specs.declared.refusals.Refusal.the-variants.{OutOfRange, BadLengths}
 use Rattle.record.specs.declared.edits.Edit.{Edit}
 use Rattle.record.specs.declared.edits.Before.{Before}
 use Rattle.record.specs.declared.edits.Before.the-variants.{Nothing, This}
-use Rattle.record.specs.declared.judging.Judged.the-variants.{Accepted, Refused}
-use Rattle.record.specs.declared.writing.Written.{Written}
-use Rattle.record.specs.declared.writing.Written.the-variants.{Length, Refused as NotWritten}
+use Rattle.record.specs.declared.answers.Judged.the-variants.{Accepted, Refused}
 use Rattle.record.specs.Lengths.{numbersLength, changesLength}
 use Rattle.record.specs.Header.{headerBytes}
 use Rattle.record.specs.Losses.{lossBytes}
@@ -24,9 +21,8 @@ use Rattle.record.specs.Edits.{follows, editsBytes}
 use Rattle.record.specs.Record.{good, bytesOf}
 use Rattle.record.specs.Good.{goodEdit, goodEdits}
 use Rattle.record.specs.Tables.{Tables, cellsOf}
-use Rattle.record.specs.Writing.{Verdict, accepted, faulty, headerFrom, editsIn, judgedLists, recordFrom, judged, checkedLists, count, unwritten, needed, neededBy, answered, writtenTo, bufferWith, bufferAfter}
-use Rattle.record.specs.Placing.{Put}
-use Rattle.record.specs.Answers.{judgedIn, writtenIn}
+use Rattle.record.specs.Writing.{Verdict, accepted, faulty, headerFrom, editsIn, judgedLists, recordFrom, judged, checkedLists, count, unwritten, needed, neededBy}
+use Rattle.record.specs.Answers.{judgedIn}
 use Rattle.record.proofs.GoodLaws.{and3-elim, HeaderFacts, header-facts, edit-facts, RecordFacts, record-facts}
 use Rattle.record.proofs.ColumnLaws.{columns-from-edits}
 use Rattle.record.proofs.WritingLaws.{unless-accepted, fitting-elim, Fitting, lists-accepted}
@@ -139,33 +135,3 @@ module _ (L : Limits) (n t R : ℕ) (lists : Tables) where
   pub needed-accepted : judgedLists L n t R lists ≡ accepted → neededBy L n t R lists ≡ count (length (bytesOf L (recordFrom n t R lists)))
   unfolding neededBy needed checkedLists judged
   needed-accepted e = rw e
-
--- ════ What writing answers and leaves ════
-
--- An outcome: the answer, and the buffer at the end.
-pub record Outcome (L : Limits) (n t R : ℕ) (lists : Tables) (old : List ℕ) (answer : Written) (buffer : List ℕ) : Type 0 where
-  pub answers : answer ≡ writtenIn (writtenTo L n t R lists (length old))
-  pub leaves : buffer ≡ bufferAfter L n t R lists old
-
-module _ (L : Limits) (n t R : ℕ) (lists : Tables) where
-  pub refused-outcome : (r : Refusal) (old : List ℕ) → judgedLists L n t R lists ≡ faulty r → Outcome L n t R lists old (NotWritten r) old
-  unfolding writtenIn writtenTo answered bufferAfter bufferWith checkedLists judged
-  refused-outcome r old e = record { answers = rw e; leaves = rw e }
-
-  module _ (v : judgedLists L n t R lists ≡ accepted) (old : List ℕ) where
-    pub no-room-outcome : leb (length (bytesOf L (recordFrom n t R lists))) (length old) ≡ false → Outcome L n t R lists old (NotWritten NoRoom) old
-    unfolding writtenIn writtenTo answered bufferAfter bufferWith checkedLists judged
-    no-room-outcome h =
-        record {
-          answers = rw (v, h);
-          leaves = rw (v, h);
-        }
-
-    pub written-outcome : (k : ℕ) (buffer : List ℕ) → leb (length (bytesOf L (recordFrom n t R lists))) (length old) ≡ true
-        → Put 0 (bytesOf L (recordFrom n t R lists)) old k buffer → Outcome L n t R lists old (Length k) buffer
-    unfolding writtenIn writtenTo answered bufferAfter bufferWith checkedLists judged
-    written-outcome k buffer h put =
-        record {
-          answers = rw (v, h) (ap Length (put .ends ∙ zero-add _));
-          leaves = rw (v, h) (put .holds);
-        }

@@ -1,23 +1,17 @@
 -- Every public function of the crate states its outcome completely.
 -- Assumes nothing.
 use Rattle.farm.proofs.Complete.{Complete, by-facts}
-use Rattle.record.proofs.header.header_refusal as header-refusal
-use Rattle.record.proofs.header.read_header as read-header
+use Rattle.record.proofs.changes.map_change as map-change
+use Rattle.record.proofs.changes.unmap_change as unmap-change
 use Rattle.record.proofs.edits.rises_to as rises-to
 use Rattle.record.proofs.edits.comes_after as comes-after
-use Rattle.record.proofs.read.check as check
-use Rattle.record.proofs.read.read as read
-use Rattle.record.proofs.judging.judge as judge
-use Rattle.record.proofs.writing.length as length
-use Rattle.record.proofs.writing.write as write
+use Rattle.record.proofs.losses.good_set as good-set
 
--- ════ Reading ════
+pub map-change-complete : Complete map-change.ended (λ M. map-change.clauses {M = M})
+map-change-complete M 𝓤 H A mem run κs a g r s v w = by-facts M 𝓤 _ _ _ (λ p q. (cc, cc))
 
-pub header-refusal-complete : Complete header-refusal.ended (λ M. header-refusal.clauses {M = M})
-header-refusal-complete M 𝓤 H A mem run κs a g r s v w = by-facts M 𝓤 _ _ _ (λ p q. (cc, cc))
-
-pub read-header-complete : Complete read-header.ended (λ M. read-header.clauses {M = M})
-read-header-complete M 𝓤 H A mem run κs a g r s v w = by-facts M 𝓤 _ _ _ (λ p q. (cc, cc))
+pub unmap-change-complete : Complete unmap-change.ended (λ M. unmap-change.clauses {M = M})
+unmap-change-complete M 𝓤 H A mem run κs a g r s v w = by-facts M 𝓤 _ _ _ (λ p q. (cc, cc))
 
 pub rises-to-complete : Complete rises-to.ended (λ M. rises-to.clauses {M = M})
 rises-to-complete M 𝓤 H A mem run κs a g r s v w = by-facts M 𝓤 _ _ _ (λ p q. (cc, cc))
@@ -25,19 +19,5 @@ rises-to-complete M 𝓤 H A mem run κs a g r s v w = by-facts M 𝓤 _ _ _ (λ
 pub comes-after-complete : Complete comes-after.ended (λ M. comes-after.clauses {M = M})
 comes-after-complete M 𝓤 H A mem run κs a g r s v w = by-facts M 𝓤 _ _ _ (λ p q. (cc, cc))
 
-pub check-complete : Complete check.ended (λ M. check.clauses {M = M})
-check-complete M 𝓤 H A mem run κs a g r s v w = by-facts M 𝓤 _ _ _ (λ p q. (cc, cc))
-
-pub read-complete : Complete read.ended (λ M. read.clauses {M = M})
-read-complete M 𝓤 H A mem run κs a g r s v w = by-facts M 𝓤 _ _ _ (λ p q. (cc, cc))
-
--- ════ Writing ════
-
-pub judge-complete : Complete judge.ended (λ M. judge.clauses {M = M})
-judge-complete M 𝓤 H A mem run κs a g r s v w = by-facts M 𝓤 _ _ _ (λ p q. (cc, cc))
-
-pub length-complete : Complete length.ended (λ M. length.clauses {M = M})
-length-complete M 𝓤 H A mem run κs a g r s v w = by-facts M 𝓤 _ _ _ (λ p q. (cc, cc))
-
-pub write-complete : Complete write.ended (λ M. write.clauses {M = M})
-write-complete M 𝓤 H A mem run κs a g r s v w = by-facts M 𝓤 _ _ _ (λ p q. (cc, cc))
+pub good-set-complete : Complete good-set.ended (λ M. good-set.clauses {M = M})
+good-set-complete M 𝓤 H A mem run κs a g r s v w = by-facts M 𝓤 _ _ _ (λ p q. (cc, cc))

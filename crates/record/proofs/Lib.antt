@@ -1,15 +1,10 @@
 pub mod TakingLaws
 pub mod NumberLaws
 pub mod ChangeLaws
-pub mod CursorLaws
 pub mod HeaderLaws
 pub mod LossLaws
 pub mod EditLaws
-pub mod RecordLaws
 pub mod TableLaws
-pub mod FillLaws
-pub mod AgainLaws
-pub mod ReadLaws
 pub mod GoodLaws
 pub mod OrderLaws
 pub mod ColumnLaws
@@ -26,9 +21,5 @@ pub mod FaultFound
 pub mod RoundLaws
 pub mod ListFaultLaws
 pub mod Promises
-pub mod JudgingLaws
-pub mod PlacingLaws
-pub mod SizeLaws
-pub mod CountingLaws
 pub mod AcceptedLaws
 pub mod CompleteLaws

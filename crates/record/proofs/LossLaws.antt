@@ -1,32 +1,24 @@
 -- The laws of loss sets: how a round and the rounds come apart, set by set.
 -- Assumes nothing.
-use mathlib.Core.Path.{_≡_, sym, _∙_, ap₂}
+use mathlib.Core.Path.{_≡_, _∙_, ap₂}
 use mathlib.Core.Logic.{_⊎_, inl, inr}
 use mathlib.Core.Bool.{Bool, true, false, not, _&&_}
-use mathlib.Core.List.{List, _∷_, _++_}
-use Prim.Native.Nat.{ℕ, zero, suc, _+_, _-_, _/_, _^_, _<_, _≤_}
+use mathlib.Core.List.{List}
+use Prim.Native.Nat.{ℕ, zero, suc, _/_, _^_, _<_, _≤_}
 use native.Mathlib.Nat.{div-lt-iff-lt-mul, div-eq-of-lt, one-mul}
-use native.Mathlib.Numerals.{add-one}
-use native.Mathlib.Omega.{arith}
 use lib.Dec.{ltb, lit<}
 use lib.Pow.{pow-pos}
-use lib.ListN.{length, drop}
 use borrow.Author.Tests.{lt-ltb, le-ltb}
-use Rattle.farm.specs.Limits.{Limits, limits}
+use Rattle.farm.specs.Limits.{Limits}
 use Rattle.farm.specs.Sets.{Seats, bit}
 use Rattle.farm.specs.declared.refusals.Refusal.{Refusal}
 use Rattle.farm.specs.declared.refusals.Refusal.the-variants.{BadLossSet}
 use Rattle.farm.proofs.Cases.{less-or-not}
-use Rattle.record.specs.declared.numbers.Cursor.{Cursor}
-use Rattle.record.specs.declared.numbers.Number.the-variants.{Value}
-use Rattle.record.specs.declared.numbers.Passed.the-variants.{To, Refused as PassedRefused}
 use Rattle.record.specs.Taking.{value, refused, _>>=_, when}
 use Rattle.record.specs.Numbers.{takeNumber}
 use Rattle.record.specs.Losses.{goodSet, takeSet, takeRound, takeRounds}
-use Rattle.record.specs.Cursors.{numberIn, passedIn}
-use Rattle.record.proofs.TakingLaws.{bind-value, when-value, Tail, tail-all, tail-trans, tail-of-drop}
+use Rattle.record.proofs.TakingLaws.{bind-value, when-value, Tail, tail-all, tail-trans}
 use Rattle.record.proofs.NumberLaws.{number-tail}
-use Rattle.record.proofs.CursorLaws.{cursor-drop, Placed, number-in-value, passed-was, passed-mapped}
 
 -- ════ One set ════
 
@@ -68,46 +60,6 @@ module _ (L : Limits) where
   pub set-tail : (n sender : ℕ) (bytes : List ℕ) (set : Seats) (rest : List ℕ) → takeSet L n sender bytes ≡ value set rest → Tail rest bytes
   set-tail n sender bytes set rest e = number-tail L bytes set rest (set-took n sender bytes set rest e .0)
 
--- ════ Rounds, as far as they are only looked through ════
-
--- A loop over the senders of a round: one set further, stopped by a refusal, and done.
-module _ (L : Limits) (all : List ℕ) (n sender : ℕ) (bytes : List ℕ) where
-  pub round-on : sender < n → (set : Seats) (rest : List ℕ) → takeSet L n sender bytes ≡ value set rest
-      → passedIn all (takeRound L n (sender + 1) (n - (sender + 1)) rest) ≡ passedIn all (takeRound L n sender (n - sender) bytes)
-  unfolding takeRound _>>=_
-  round-on h set rest e =
-      let left : n - sender ≡ suc (n - (sender + 1)) = omega arith in
-      rw (left, e, add-one) (sym (passed-mapped all (takeRound L n (suc sender) (n - suc sender) rest) (λ sets. set ∷ sets)))
-
-  pub round-stops : sender < n → (r : Refusal) → takeSet L n sender bytes ≡ refused r
-      → passedIn all (takeRound L n sender (n - sender) bytes) ≡ PassedRefused r
-  unfolding takeRound passedIn _>>=_
-  round-stops h r e = let left : n - sender ≡ suc (n - (sender + 1)) = omega arith in rw (left, e)
-
-pub round-ends : (L : Limits) (all : List ℕ) (n sender at : ℕ) → n ≤ sender → at ≤ length all
-    → passedIn all (takeRound L n sender (n - sender) (drop at all)) ≡ To (record { at = at })
-unfolding takeRound passedIn
-round-ends L all n sender at h l = let none : n - sender ≡ 0 = omega arith in rw (none, cursor-drop all at l)
-
--- A loop over the rounds, the same way.
-module _ (L : Limits) (all : List ℕ) (n rounds round : ℕ) (bytes : List ℕ) where
-  pub rounds-on : round < rounds → (sets : List Seats) (rest : List ℕ) → takeRound L n 0 n bytes ≡ value sets rest
-      → passedIn all (takeRounds L n (rounds - (round + 1)) rest) ≡ passedIn all (takeRounds L n (rounds - round) bytes)
-  unfolding takeRounds _>>=_
-  rounds-on h sets rest e =
-      let left : rounds - round ≡ suc (rounds - (round + 1)) = omega arith in
-      rw (left, e) (sym (passed-mapped all (takeRounds L n (rounds - (round + 1)) rest) (λ later. sets ++ later)))
-
-  pub rounds-stop : round < rounds → (r : Refusal) → takeRound L n 0 n bytes ≡ refused r
-      → passedIn all (takeRounds L n (rounds - round) bytes) ≡ PassedRefused r
-  unfolding takeRounds passedIn _>>=_
-  rounds-stop h r e = let left : rounds - round ≡ suc (rounds - (round + 1)) = omega arith in rw (left, e)
-
-pub rounds-end : (L : Limits) (all : List ℕ) (n rounds round at : ℕ) → rounds ≤ round → at ≤ length all
-    → passedIn all (takeRounds L n (rounds - round) (drop at all)) ≡ To (record { at = at })
-unfolding takeRounds passedIn
-rounds-end L all n rounds round at h l = let none : rounds - round ≡ 0 = omega arith in rw (none, cursor-drop all at l)
-
 -- ════ Tails ════
 
 module _ (L : Limits) where
@@ -130,17 +82,3 @@ module _ (L : Limits) where
       let y = bind-value (takeRounds L n rounds (x .1)) _ sets rest (x .3) in
       let ends : y .1 ≡ rest = cc in
       tail-trans (rw ends at (rounds-tail n rounds (x .1) (y .0) (y .1) (y .2))) (round-tail n 0 n bytes (x .0) (x .1) (x .2))
-
--- ════ At a cursor ════
-
-pub set-was : (n sender : ℕ) (bytes : List ℕ) (at v : ℕ) (next : Cursor) → numberIn bytes (takeSet limits n sender (drop at bytes)) ≡ Value v next
-    → Placed bytes (takeSet limits n sender (drop at bytes)) v (next .at)
-set-was n sender bytes at v next e =
-    number-in-value bytes (takeSet limits n sender (drop at bytes)) v next
-    (λ w rest f. tail-trans (set-tail limits n sender (drop at bytes) w rest f) (tail-of-drop at bytes)) e
-
-pub round-was : (n : ℕ) (bytes : List ℕ) (at : ℕ) (next : Cursor) → passedIn bytes (takeRound limits n 0 n (drop at bytes)) ≡ To next
-    → (sets : List Seats) × Placed bytes (takeRound limits n 0 n (drop at bytes)) sets (next .at)
-round-was n bytes at next e =
-    passed-was bytes (takeRound limits n 0 n (drop at bytes)) next
-    (λ w rest f. tail-trans (round-tail limits n 0 n (drop at bytes) w rest f) (tail-of-drop at bytes)) e

@@ -1,18 +1,18 @@
--- What the code answers about lists, and the lists as it is given them: each answer of an enum has one meaning here.
-use mathlib.Core.List.{List}
-use Prim.Native.Nat.{ℕ}
-use lib.IntN.{ℤ}
-use Rattle.farm.specs.Sets.{Seats}
-use Rattle.record.specs.declared.judging.Judged.{Judged}
-use Rattle.record.specs.declared.judging.Judged.the-variants.{Accepted, Refused}
-use Rattle.record.specs.declared.writing.Written.{Written}
-use Rattle.record.specs.declared.writing.Written.the-variants.{Length, Refused as NotWritten}
-use Rattle.record.specs.Tables.{Tables}
+-- What the code answers about bytes and lists: each answer of an enum has one meaning here.
+use Rattle.record.specs.declared.answers.Checked.{Checked}
+use Rattle.record.specs.declared.answers.Checked.the-variants.{Good, Refused as CheckedRefused}
+use Rattle.record.specs.declared.answers.Judged.{Judged}
+use Rattle.record.specs.declared.answers.Judged.the-variants.{Accepted, Refused}
+use Rattle.record.specs.declared.answers.Written.{Written}
+use Rattle.record.specs.declared.answers.Written.the-variants.{Length, Refused as NotWritten}
+use Rattle.record.specs.Record.{Reading, good, bad}
 use Rattle.record.specs.Writing as Meant
 use Rattle.record.specs.Writing.{Verdict, accepted, faulty, count, unwritten}
 
-abbrev pub listsOf : (losses : List Seats) (seats times cells : List ℕ) → List ℤ → Tables
-listsOf losses seats times cells changes = record { losses = losses; seats = seats; times = times; cells = cells; changes = changes }
+-- Whether a record is good, and its header.
+unfoldable pub checkedOf : Reading → Checked
+checkedOf (good r) = Good (r .header)
+checkedOf (bad r) = CheckedRefused r
 
 unfoldable pub judgedIn : Verdict → Judged
 judgedIn accepted = Accepted

@@ -6,9 +6,7 @@ pub mod Header
 pub mod Losses
 pub mod Edits
 pub mod Record
-pub mod Cursors
 pub mod Tables
-pub mod Filling
 pub mod Document
 pub mod Good
 pub mod Widths
@@ -18,6 +16,5 @@ pub mod Lengths
 pub mod Faults
 pub mod ListFaults
 pub mod Answers
-pub mod Placing
 pub mod Longest
 pub mod Promises

@@ -6,12 +6,10 @@ use Prim.Native.Nat.{ℕ, _+_, _*_}
 use lib.Dec.{leb}
 use lib.IntN.{ℤ}
 use lib.ListN.{length, take, drop}
-use Rattle.farm.specs.Limits.{Limits, limits}
+use Rattle.farm.specs.Limits.{Limits}
 use Rattle.farm.specs.Sets.{Seats}
 use Rattle.farm.specs.declared.refusals.Refusal.the-variants.{NoRoom}
 use Rattle.record.specs.declared.edits.Edit.{Edit}
-use Rattle.record.specs.declared.read.Checked.{Checked}
-use Rattle.record.specs.Cursors.{checkedOf}
 use Rattle.record.specs.Record.{Record, Reading, good, bad, readingOf}
 
 pub record Tables : Type 0 where
@@ -60,13 +58,6 @@ editsFrom (s ∷ seats) (t ∷ times) (c ∷ cells) (d ∷ changes) = editOf s t
 unfoldable pub over : {A : Type 0} (at : ℕ) (new old : List A) → List A
 over at new old = take at old ++ (new ++ drop (at + length new) old)
 
--- Edits put over the first entries of the four lists.
-pub record EditsFilled (edits : List Edit) (before after : Tables) : Type 0 where
-  pub seats : after .seats ≡ over 0 (seatsOf edits) (before .seats)
-  pub times : after .times ≡ over 0 (timesOf edits) (before .times)
-  pub cells : after .cells ≡ over 0 (cellsOf edits) (before .cells)
-  pub changes : after .changes ≡ over 0 (changesOf edits) (before .changes)
-
 -- Room for any record, whatever this one holds.
 unfoldable pub roomy : Limits → Tables → Bool
 roomy L t =
@@ -102,8 +93,3 @@ pub record TablesRead (reading : Reading) (before after : Tables) : Type 0 where
 pub record Accepted (reading : Reading) : Type 0 where
   pub what : Record
   pub is : reading ≡ good what
-
--- Reading into tables, whole: the answer and the tables afterwards, for what there was at the call.
-pub record ReadOutcome (bytes : List ℕ) (before : Tables) (answer : Checked) (after : Tables) : Type 0 where
-  pub answered : answer ≡ checkedOf (readInto limits before bytes)
-  pub left : TablesRead (readInto limits before bytes) before after

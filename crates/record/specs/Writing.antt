@@ -4,8 +4,10 @@ use mathlib.Core.Bool.{Bool, true, false, cond, _&&_}
 use mathlib.Core.List.{List, [], _∷_}
 use Prim.Native.Nat.{ℕ, _*_}
 use lib.Dec.{eqb, leb}
+use lib.IntN.{ℤ}
 use lib.ListN.{length}
 use Rattle.farm.specs.Limits.{Limits}
+use Rattle.farm.specs.Sets.{Seats}
 use Rattle.farm.specs.declared.refusals.Refusal.{Refusal}
 use Rattle.farm.specs.declared.refusals.Refusal.the-variants.{OutOfRange, BadLossSet, BadOrder, NoRoom, BadLengths}
 use Rattle.record.specs.declared.header.Header.{Header}
@@ -16,6 +18,10 @@ use Rattle.record.specs.Edits.{follows}
 use Rattle.record.specs.Record.{Record, Reading, good, bad, bytesOf}
 use Rattle.record.specs.Good.{goodHeader, goodSets, goodEdit}
 use Rattle.record.specs.Tables.{Tables, over, editsFrom}
+
+-- The lists as they are given, one for each field.
+abbrev pub listsOf : (losses : List Seats) (seats times cells : List ℕ) → List ℤ → Tables
+listsOf losses seats times cells changes = record { losses = losses; seats = seats; times = times; cells = cells; changes = changes }
 
 -- ════ Whether the lists are a good record ════
 

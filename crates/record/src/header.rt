@@ -1,65 +1,7 @@
-// The four numbers that a record begins with, each tested against its range as it is read.
-use crate::numbers::Cursor;
-use crate::numbers::Number;
-use crate::numbers::read_within;
-use crate::numbers::refusal_of;
-use farm::limits::FEWEST_SEATS;
-use farm::limits::MOST_EDITS;
-use farm::limits::MOST_ROUNDS;
-use farm::limits::MOST_SEATS;
-use farm::refusals::Refusal;
-ghost use mathlib.Core.Path.{_≡_};
-ghost use Rattle.farm.specs.Limits.{limits};
-ghost use Rattle.record.specs.Header.{takeHeader};
-ghost use Rattle.record.specs.Cursors.{headerIn, headerRefusalIn};
-
+// The four numbers that a record begins with.
 pub struct Header {
     pub seats: u8,
     pub bound: u8,
     pub rounds: u16,
     pub edits: u16,
-}
-
-pub enum HeaderRead {
-    // The header, and where the losses begin.
-    Header(Header, Cursor),
-    Refused(Refusal),
-}
-
-// The refusal in an answer that has one; it is asked of no other.
-pub fn header_refusal(read: HeaderRead) -> Refusal
-    ensures { λ r. ⌜ r ≡ headerRefusalIn read ⌝ }
-{
-    match read {
-        HeaderRead::Header(_, _) => Refusal::OutOfRange,
-        HeaderRead::Refused(refusal) => refusal,
-    }
-}
-
-pub fn read_header(bytes: &[u8]) -> HeaderRead
-    ensures { λ r. ⌜ r ≡ headerIn (now (bytes .entry)) (takeHeader limits (now (bytes .entry))) ⌝ }
-{
-    let n = read_within(bytes, Cursor { at: 0 }, FEWEST_SEATS, MOST_SEATS);
-    let Number::Value(seats, after_seats) = n else {
-        return HeaderRead::Refused(refusal_of(n));
-    };
-    let t = read_within(bytes, after_seats, 0, seats - 1);
-    let Number::Value(bound, after_bound) = t else {
-        return HeaderRead::Refused(refusal_of(t));
-    };
-    let r = read_within(bytes, after_bound, 0, MOST_ROUNDS);
-    let Number::Value(rounds, after_rounds) = r else {
-        return HeaderRead::Refused(refusal_of(r));
-    };
-    let e = read_within(bytes, after_rounds, 0, MOST_EDITS);
-    let Number::Value(edits, after_edits) = e else {
-        return HeaderRead::Refused(refusal_of(e));
-    };
-    let header = Header {
-        seats: seats as u8,
-        bound: bound as u8,
-        rounds: rounds as u16,
-        edits: edits as u16,
-    };
-    HeaderRead::Header(header, after_edits)
 }

@@ -2,7 +2,7 @@
 -- Assumes nothing.
 use mathlib.Core.Path.{sym, ap}
 use denote.Ref.{now}
-use Rattle.record.specs.declared.read.Checked.{Checked}
+use Rattle.record.specs.declared.answers.Checked.{Checked}
 use Rattle.bindings.specs.Codes.{headerLeft}
 use borrow.Author.Needs.{needs}
 use Rattle.bindings.proofs.records.put_header.Statement.{statement}

@@ -2,7 +2,7 @@
 -- Assumes nothing.
 use mathlib.Core.Path.{_∙_, ap}
 use denote.Ref.{now}
-use Rattle.record.specs.declared.writing.Written.{Written}
+use Rattle.record.specs.declared.answers.Written.{Written}
 use Rattle.bindings.specs.Codes.{writtenNumber, lengthLeft}
 use borrow.Author.Needs.{needs}
 use Rattle.bindings.proofs.records.ricecrock_write.Statement.{statement}

@@ -8,8 +8,8 @@ use mir.Syntax.{named, tyInt, w8}
 use Rattle.live.proofs.Handed.{none, lent}
 use Rattle.live.proofs.Live.{an-enum}
 use Rattle.live.proofs.Parts.{ask-parts-into, the-parts}
-use Rattle.record.proofs.writing.Written as Written
-use Rattle.record.proofs.writing.Written.Laws as Written′
+use Rattle.record.proofs.answers.Written as Written
+use Rattle.record.proofs.answers.Written.Laws as Written′
 use Rattle.live.proofs.asks.write_out as thin
 use Rattle.live.proofs.asks.write_out.Code as code
 use Rattle.live.proofs.asks.write_out.Key as key

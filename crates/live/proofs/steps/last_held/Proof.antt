@@ -5,7 +5,7 @@ use mathlib.Core.Path.{_∙_, ap}
 use native.Mathlib.Omega.{arith}
 use denote.Ref.{now}
 use Rattle.record.specs.declared.edits.Before.the-variants.{This}
-use Rattle.record.proofs.JudgingLaws.{change-kept}
+use Rattle.judging.proofs.JudgingLaws.{change-kept}
 use Rattle.live.proofs.StepLaws.{last-of-none, last-of-some}
 use Rattle.live.proofs.steps.last_held.Statement.{statement}
 use Rattle.live.proofs.steps.last_held.Tie as tie

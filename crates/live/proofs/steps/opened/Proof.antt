@@ -5,7 +5,7 @@ use mathlib.Core.Path.{refl}
 use native.Mathlib.Omega.{arith}
 use Rattle.farm.specs.Limits.{limits}
 use Rattle.farm.specs.declared.refusals.Refusal.the-variants.{OutOfRange}
-use Rattle.record.proofs.JudgingLaws.{few-seats, many-seats, high-bound, edits-decide}
+use Rattle.judging.proofs.JudgingLaws.{few-seats, many-seats, high-bound, edits-decide}
 use Rattle.live.specs.Calls.{opening, emptyHeader}
 use Rattle.live.proofs.StepLaws.{opening-refused, opening-accepted, refused-step, accepted-step}
 use Rattle.live.proofs.steps.opened.Statement.{statement}

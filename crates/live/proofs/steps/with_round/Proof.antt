@@ -9,7 +9,7 @@ use lib.ListN.{length}
 use denote.Ref.{now}
 use borrow.Author.Tests.{not-true, not-false}
 use Rattle.farm.specs.declared.refusals.Refusal.the-variants.{RoundsFull, BadTable}
-use Rattle.record.specs.Answers.{listsOf}
+use Rattle.record.specs.Writing.{listsOf}
 use Rattle.record.proofs.AcceptedLaws.{answer-accepted, answer-refused, accepted-header, accepted-lengths}
 use Rattle.live.specs.Calls.{round}
 use Rattle.live.proofs.StepLaws.{sets-fit, round-bad, round-full, round-judged, round-table, refused-step, accepted-step}

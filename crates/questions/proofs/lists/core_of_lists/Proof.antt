@@ -3,7 +3,7 @@
 use Rattle.questions.proofs.RecordLaws.{lists-bad, lists-good, answer-bad, answer-good}
 use Rattle.questions.specs.Answers.{timesAnswer}
 use Rattle.questions.specs.Accepted.{coreIn}
-use Rattle.record.specs.Answers.{listsOf}
+use Rattle.record.specs.Writing.{listsOf}
 use Rattle.record.specs.Writing.{recordFrom}
 use mathlib.Core.Path.{refl}
 use denote.Ref.{now}

@@ -2,7 +2,7 @@
 -- Assumes nothing.
 use Rattle.questions.proofs.RecordLaws.{lists-bad, lists-good, buffer-bad, buffer-good}
 use Rattle.questions.specs.Accepted.{coreIn}
-use Rattle.record.specs.Answers.{listsOf}
+use Rattle.record.specs.Writing.{listsOf}
 use Rattle.record.specs.Writing.{recordFrom}
 use mathlib.Core.Path.{refl}
 use denote.Ref.{now}

@@ -3,7 +3,7 @@
 use Rattle.questions.proofs.RecordLaws.{lists-bad, lists-good, buffer-bad, buffer-good, marks-asked}
 use Rattle.questions.specs.Question.{buffer}
 use lib.ListN.{length}
-use Rattle.record.specs.Answers.{listsOf}
+use Rattle.record.specs.Writing.{listsOf}
 use Rattle.record.specs.Writing.{recordFrom}
 use denote.Ref.{now}
 use borrow.Author.Needs.{needs}

@@ -1,7 +1,7 @@
 -- `questions::lists::view_of_lists_into` meets its contract: the lists' refusal, or the view of the record that they are.
 -- Assumes nothing.
 use Rattle.questions.proofs.RecordLaws.{lists-bad, lists-good, buffer-bad, buffer-good}
-use Rattle.record.specs.Answers.{listsOf}
+use Rattle.record.specs.Writing.{listsOf}
 use Rattle.record.specs.Writing.{recordFrom}
 use mathlib.Core.Path.{refl}
 use denote.Ref.{now}

@@ -1,0 +1,2 @@
+pub mod JudgingLaws
+pub mod CompleteLaws

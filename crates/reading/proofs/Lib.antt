@@ -1,0 +1,4 @@
+pub mod FillLaws
+pub mod AgainLaws
+pub mod ReadLaws
+pub mod CompleteLaws

@@ -1,0 +1,5 @@
+pub mod SizeLaws
+pub mod CountingLaws
+pub mod PlacingLaws
+pub mod OutcomeLaws
+pub mod CompleteLaws
