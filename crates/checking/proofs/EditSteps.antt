@@ -14,14 +14,16 @@ use Rattle.record.specs.declared.edits.Before.{Before}
 use Rattle.record.specs.declared.edits.Before.the-variants.{This}
 use Rattle.checking.specs.declared.answers.EditRead.{EditRead}
 use Rattle.checking.specs.declared.answers.EditRead.the-variants.{Edit as EditFound, Refused as EditRefused}
-use Rattle.checking.specs.declared.answers.Cursor.{Cursor}
+use Rattle.numbers.specs.declared.read.Cursor.{Cursor}
 use Rattle.checking.specs.declared.answers.Passed.the-variants.{To, Refused as PassedRefused}
 use Rattle.record.specs.Taking.{Taken, value, refused, _>>=_, when}
 use Rattle.record.specs.Edits.{follows, takeEdit, takeEdits}
-use Rattle.checking.specs.Cursors.{cursorAt, editIn, editRefusalIn, passedIn}
+use Rattle.numbers.specs.Cursors.{cursorAt}
+use Rattle.checking.specs.Parts.{editIn, editRefusalIn, passedIn}
 use Rattle.record.proofs.TakingLaws.{Tail, tail-trans, tail-of-drop}
 use Rattle.record.proofs.EditLaws.{edit-tail}
-use Rattle.checking.proofs.CursorLaws.{cursor-drop, Placed, placed, passed-mapped}
+use Rattle.numbers.proofs.CursorLaws.{cursor-drop, Placed, placed}
+use Rattle.checking.proofs.PassedLaws.{passed-mapped}
 
 -- ════ Edits, as far as they are only looked through ════
 

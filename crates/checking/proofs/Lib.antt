@@ -1,4 +1,4 @@
-pub mod CursorLaws
+pub mod PassedLaws
 pub mod LossSteps
 pub mod EditSteps
 pub mod RecordLaws

@@ -9,15 +9,17 @@ use lib.ListN.{length, drop}
 use Rattle.farm.specs.Limits.{Limits, limits}
 use Rattle.farm.specs.Sets.{Seats}
 use Rattle.farm.specs.declared.refusals.Refusal.{Refusal}
-use Rattle.checking.specs.declared.answers.Cursor.{Cursor}
-use Rattle.checking.specs.declared.answers.Number.the-variants.{Value}
+use Rattle.numbers.specs.declared.read.Cursor.{Cursor}
+use Rattle.numbers.specs.declared.read.Number.the-variants.{Value}
 use Rattle.checking.specs.declared.answers.Passed.the-variants.{To, Refused as PassedRefused}
 use Rattle.record.specs.Taking.{value, refused, _>>=_}
 use Rattle.record.specs.Losses.{takeSet, takeRound, takeRounds}
-use Rattle.checking.specs.Cursors.{numberIn, passedIn}
+use Rattle.numbers.specs.Cursors.{numberIn}
+use Rattle.checking.specs.Parts.{passedIn}
 use Rattle.record.proofs.TakingLaws.{tail-trans, tail-of-drop}
 use Rattle.record.proofs.LossLaws.{set-tail, round-tail}
-use Rattle.checking.proofs.CursorLaws.{cursor-drop, Placed, number-in-value, passed-was, passed-mapped}
+use Rattle.numbers.proofs.CursorLaws.{cursor-drop, Placed, number-in-value}
+use Rattle.checking.proofs.PassedLaws.{passed-was, passed-mapped}
 
 -- ════ Rounds, as far as they are only looked through ════
 

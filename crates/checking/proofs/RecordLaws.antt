@@ -11,7 +11,7 @@ use Rattle.farm.specs.Limits.{Limits, limits}
 use Rattle.farm.specs.Sets.{Seats}
 use Rattle.farm.specs.declared.refusals.Refusal.{Refusal}
 use Rattle.farm.specs.declared.refusals.Refusal.the-variants.{BytesLeft}
-use Rattle.checking.specs.declared.answers.Cursor.{Cursor}
+use Rattle.numbers.specs.declared.read.Cursor.{Cursor}
 use Rattle.checking.specs.declared.answers.Passed.{Passed}
 use Rattle.checking.specs.declared.answers.Passed.the-variants.{To, Refused as PassedRefused}
 use Rattle.record.specs.declared.header.Header.{Header}
@@ -24,10 +24,12 @@ use Rattle.record.specs.Header.{takeHeader}
 use Rattle.record.specs.Losses.{takeRounds}
 use Rattle.record.specs.Edits.{takeEdits}
 use Rattle.record.specs.Record.{good, bad, takeRecord, whole, readingOf}
-use Rattle.checking.specs.Cursors.{cursorAt, headerIn, headerRefusalIn, passedIn, passedRefusalIn}
+use Rattle.numbers.specs.Cursors.{cursorAt}
+use Rattle.checking.specs.Parts.{headerIn, headerRefusalIn, passedIn, passedRefusalIn}
 use Rattle.record.proofs.TakingLaws.{Tail}
 use Rattle.record.proofs.NumberLaws.{within-value}
-use Rattle.checking.proofs.CursorLaws.{placed, passed-was, passed-was-refused, passed-refusal-passed}
+use Rattle.numbers.proofs.CursorLaws.{placed}
+use Rattle.checking.proofs.PassedLaws.{passed-was, passed-was-refused, passed-refusal-passed}
 use Rattle.record.proofs.HeaderLaws.{header-took, header-tail}
 use Rattle.record.proofs.LossLaws.{rounds-tail}
 use Rattle.record.proofs.EditLaws.{edits-tail}

@@ -1,15 +1,16 @@
 // The edit reader: one edit at a cursor, and all edits in the part of the record after the losses.
-use crate::answers::Cursor;
 use crate::answers::EditRead;
-use crate::answers::Number;
 use crate::answers::Passed;
-use crate::numbers::read_within;
-use crate::numbers::refusal_of;
+use crate::answers::edit_refusal;
 use farm::limits::LARGEST_CELL;
 use farm::limits::LARGEST_MAPPED_CHANGE;
 use farm::places::Seat;
 use farm::places::Time;
 use farm::refusals::Refusal;
+use numbers::read::Cursor;
+use numbers::read::Number;
+use numbers::read::read_within;
+use numbers::read::refusal_of;
 use record::changes::unmap_change;
 use record::edits::Before;
 use record::edits::Edit;
@@ -20,17 +21,7 @@ ghost use lib.ListN.{drop};
 ghost use Rattle.farm.specs.Limits.{limits};
 ghost use Rattle.record.specs.Edits.{takeEdit, takeEdits};
 ghost use Rattle.record.specs.declared.edits.Before.the-variants.{Nothing};
-ghost use Rattle.checking.specs.Cursors.{passedIn, editIn, editRefusalIn};
-
-// The refusal in an answer that has one; it is asked of no other.
-pub fn edit_refusal(read: EditRead) -> Refusal
-    ensures { λ r. ⌜ r ≡ editRefusalIn read ⌝ }
-{
-    match read {
-        EditRead::Edit(_, _) => Refusal::OutOfRange,
-        EditRead::Refused(refusal) => refusal,
-    }
-}
+ghost use Rattle.checking.specs.Parts.{passedIn, editIn};
 
 // The edit that begins at a cursor, each field tested against its range as it is read.
 pub fn read_edit(bytes: &[u8], from: Cursor, seats: u8, rounds: u16) -> EditRead

@@ -1,29 +1,18 @@
 // The four numbers that a record begins with, each tested against its range as it is read.
-use crate::answers::Cursor;
 use crate::answers::HeaderRead;
-use crate::answers::Number;
-use crate::numbers::read_within;
-use crate::numbers::refusal_of;
 use farm::limits::FEWEST_SEATS;
 use farm::limits::MOST_EDITS;
 use farm::limits::MOST_ROUNDS;
 use farm::limits::MOST_SEATS;
-use farm::refusals::Refusal;
+use numbers::read::Cursor;
+use numbers::read::Number;
+use numbers::read::read_within;
+use numbers::read::refusal_of;
 use record::header::Header;
 ghost use mathlib.Core.Path.{_≡_};
 ghost use Rattle.farm.specs.Limits.{limits};
 ghost use Rattle.record.specs.Header.{takeHeader};
-ghost use Rattle.checking.specs.Cursors.{headerIn, headerRefusalIn};
-
-// The refusal in an answer that has one; it is asked of no other.
-pub fn header_refusal(read: HeaderRead) -> Refusal
-    ensures { λ r. ⌜ r ≡ headerRefusalIn read ⌝ }
-{
-    match read {
-        HeaderRead::Header(_, _) => Refusal::OutOfRange,
-        HeaderRead::Refused(refusal) => refusal,
-    }
-}
+ghost use Rattle.checking.specs.Parts.{headerIn};
 
 pub fn read_header(bytes: &[u8]) -> HeaderRead
     ensures { λ r. ⌜ r ≡ headerIn (now (bytes .entry)) (takeHeader limits (now (bytes .entry))) ⌝ }

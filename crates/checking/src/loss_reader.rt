@@ -1,19 +1,20 @@
 // The losses of a record: for each round, for each sending seat, the set of seats that its send did
 // not reach. They are looked through here without a table.
-use crate::answers::Cursor;
-use crate::answers::Number;
 use crate::answers::Passed;
-use crate::numbers::passed_refusal;
-use crate::numbers::read_number;
-use crate::numbers::refusal_of;
+use crate::answers::passed_refusal;
 use farm::refusals::Refusal;
+use numbers::read::Cursor;
+use numbers::read::Number;
+use numbers::read::read_number;
+use numbers::read::refusal_of;
 use record::losses::good_set;
 ghost use mathlib.Core.Path.{_≡_};
 ghost use Prim.Native.Nat.{_<_, _≤_};
 ghost use lib.ListN.{length, drop};
 ghost use Rattle.farm.specs.Limits.{limits};
 ghost use Rattle.record.specs.Losses.{takeSet, takeRound, takeRounds};
-ghost use Rattle.checking.specs.Cursors.{numberIn, passedIn};
+ghost use Rattle.numbers.specs.Cursors.{numberIn};
+ghost use Rattle.checking.specs.Parts.{passedIn};
 
 // The loss set of a sender. The set is tested when its number was taken.
 pub fn read_set(bytes: &[u8], from: Cursor, seats: u8, sender: u8) -> Number

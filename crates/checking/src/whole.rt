@@ -2,11 +2,11 @@
 // "Refusal numbers": the first faulty number in byte order decides.
 use crate::answers::HeaderRead;
 use crate::answers::Passed;
+use crate::answers::header_refusal;
+use crate::answers::passed_refusal;
 use crate::edit_reader::check_edits;
-use crate::header_reader::header_refusal;
 use crate::header_reader::read_header;
 use crate::loss_reader::check_losses;
-use crate::numbers::passed_refusal;
 use farm::refusals::Refusal;
 use record::answers::Checked;
 ghost use mathlib.Core.Path.{_≡_};

@@ -7,17 +7,17 @@ use native.Mathlib.Omega.{arith}
 use lib.ListN.{drop}
 use Rattle.farm.specs.Limits.{limits}
 use Rattle.farm.specs.declared.refusals.Refusal.{Refusal}
-use Rattle.checking.specs.declared.answers.Cursor.{Cursor}
-use Rattle.checking.specs.declared.answers.Number.{Number}
-use Rattle.checking.specs.declared.answers.Number.the-variants.{Value, Refused}
+use Rattle.numbers.specs.declared.read.Cursor.{Cursor}
+use Rattle.numbers.specs.declared.read.Number.{Number}
+use Rattle.numbers.specs.declared.read.Number.the-variants.{Value, Refused}
 use Rattle.record.specs.Taking.{Taken, value}
 use Rattle.record.specs.Numbers.{takeNumber, takeWithin}
 use Rattle.record.specs.Edits.{takeEdit}
 use Rattle.reading.specs.Filling.{Gives}
-use Rattle.checking.specs.Cursors.{numberAt}
+use Rattle.numbers.specs.Cursors.{numberAt}
 use Rattle.record.proofs.TakingLaws.{value-not-refused}
 use Rattle.record.proofs.NumberLaws.{within-value}
-use Rattle.checking.proofs.CursorLaws.{Field, number-was, number-was-refused}
+use Rattle.numbers.proofs.CursorLaws.{Field, number-was, number-was-refused}
 use Rattle.record.proofs.EditLaws.{EditTook, edit-took}
 
 -- ════ One number ════

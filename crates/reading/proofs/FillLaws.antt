@@ -19,9 +19,10 @@ use Rattle.record.specs.Edits.{follows, takeEdit, takeEdits}
 use Rattle.reading.specs.Filling.{Gives, given, takeNumbers, AllBelow}
 use Rattle.record.specs.Tables.{Tables, tables, over, seatsOf, timesOf, cellsOf, changesOf}
 use Rattle.reading.specs.Filling.{EditsFilled}
-use Rattle.checking.specs.Cursors.{passedIn}
+use Rattle.checking.specs.Parts.{passedIn}
 use Rattle.record.proofs.TakingLaws.{bind-value, when-value, value-not-refused}
-use Rattle.checking.proofs.CursorLaws.{cursor-drop, Placed, passed-mapped}
+use Rattle.numbers.proofs.CursorLaws.{cursor-drop, Placed}
+use Rattle.checking.proofs.PassedLaws.{passed-mapped}
 use Rattle.record.proofs.TableLaws.{over-none, over-first, Column, column-start, column-on, column-end}
 
 -- ════ Loss sets ════

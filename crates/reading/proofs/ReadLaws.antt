@@ -13,7 +13,7 @@ use Rattle.farm.specs.Limits.{Limits, limits}
 use Rattle.farm.specs.Sets.{Seats}
 use Rattle.farm.specs.declared.refusals.Refusal.{Refusal}
 use Rattle.farm.proofs.Cases.{and-elim}
-use Rattle.checking.specs.declared.answers.Cursor.{Cursor}
+use Rattle.numbers.specs.declared.read.Cursor.{Cursor}
 use Rattle.checking.specs.declared.answers.Passed.the-variants.{To}
 use Rattle.record.specs.declared.header.Header.{Header}
 use Rattle.record.specs.declared.edits.Edit.{Edit}
@@ -28,7 +28,8 @@ use Rattle.reading.specs.Filling.{Gives, given, takeNumbers, AllBelow}
 use Rattle.record.specs.Tables.{Tables, over, seatsOf, timesOf, cellsOf, changesOf, roomy, readInto, tablesAfter, TablesRead, Accepted}
 use Rattle.reading.specs.Filling.{EditsFilled}
 use Rattle.reading.specs.Outcome.{ReadOutcome}
-use Rattle.checking.specs.Cursors.{cursorAt, passedIn}
+use Rattle.numbers.specs.Cursors.{cursorAt}
+use Rattle.checking.specs.Parts.{passedIn}
 use Rattle.record.specs.Answers.{checkedOf}
 use Rattle.record.specs.declared.answers.Checked.{Checked}
 use Rattle.record.specs.declared.answers.Checked.the-variants.{Good, Refused as CheckedRefused}

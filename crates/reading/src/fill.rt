@@ -1,13 +1,13 @@
 // The second pass: a record that the first pass found good goes into lent tables.
-use checking::answers::Cursor;
 use checking::answers::EditRead;
 use checking::answers::HeaderRead;
-use checking::answers::Number;
 use checking::header_reader::read_header;
-use checking::numbers::read_number;
 use farm::places::Seat;
 use farm::places::Time;
 use farm::refusals::Refusal;
+use numbers::read::Cursor;
+use numbers::read::Number;
+use numbers::read::read_number;
 use record::changes::unmap_change;
 use record::edits::Edit;
 ghost use mathlib.Core.Path.{_≡_};
@@ -17,7 +17,7 @@ ghost use Rattle.farm.specs.Limits.{limits};
 ghost use Rattle.record.specs.declared.edits.Before.the-variants.{Nothing};
 ghost use Rattle.checking.specs.declared.answers.Passed.the-variants.{To};
 ghost use Rattle.record.specs.Edits.{takeEdit, takeEdits};
-ghost use Rattle.checking.specs.Cursors.{passedIn, editIn};
+ghost use Rattle.checking.specs.Parts.{passedIn, editIn};
 ghost use Rattle.reading.specs.Filling.{Gives, given, takeNumbers, AllBelow};
 ghost use mathlib.Core.List.{[]};
 ghost use Rattle.record.specs.Tables.{over, tables, Accepted, TablesRead, roomy};

@@ -15,7 +15,7 @@ use Rattle.record.specs.declared.answers.Written.the-variants.{Length, Refused 
 use Rattle.record.specs.Record.{bytesOf}
 use Rattle.record.specs.Tables.{Tables}
 use Rattle.record.specs.Writing.{accepted, faulty, judgedLists, recordFrom, judged, checkedLists, answered, writtenTo, bufferWith, bufferAfter}
-use Rattle.writing.specs.Placing.{Put}
+use Rattle.numbers.specs.Placing.{Put}
 use Rattle.record.specs.Answers.{writtenIn}
 
 -- An outcome: the answer, and the buffer at the end.

@@ -1,29 +1,16 @@
 // How many bytes accepted lists take, and whether a buffer has room for them.
+use numbers::write::number_length;
 use record::changes::map_change;
 ghost use mathlib.Core.Path.{_≡_};
 ghost use Prim.Native.Nat.{_^_, _<_};
 ghost use lib.Dec.{leb};
 ghost use lib.ListN.{length};
 ghost use Rattle.farm.specs.Limits.{limits};
-ghost use Rattle.record.specs.Numbers.{numberBytes};
 ghost use Rattle.record.specs.Header.{headerBytes};
 ghost use Rattle.record.specs.Lengths.{numbersLength, changesLength};
 ghost use Rattle.record.specs.Record.{bytesOf};
 ghost use Rattle.record.specs.Writing.{accepted, judgedLists, recordFrom};
 ghost use Rattle.record.specs.Writing.{listsOf};
-
-// How many bytes a number takes.
-fn number_length(value: u32) -> usize
-    ensures { λ r. ⌜ r ≡ length (numberBytes limits value) ⌝ }
-{
-    if value < 128 {
-        return 1;
-    }
-    if value < 16_384 {
-        return 2;
-    }
-    3
-}
 
 fn header_length(seats: u8, bound: u8, rounds: u16, edits: usize) -> usize
     requires { ⌜ edits < 128 ^ 3 ⌝ }

@@ -1,40 +1,18 @@
 // The bytes of accepted lists, put into a buffer that has room for them.
+use numbers::write::put_number;
 use record::changes::map_change;
 ghost use mathlib.Core.Path.{_≡_};
 ghost use Prim.Native.Nat.{ℕ, _+_, _^_, _<_, _≤_};
 ghost use lib.ListN.{length, getD};
 ghost use Rattle.farm.specs.Limits.{limits};
-ghost use Rattle.record.specs.Numbers.{numberBytes};
 ghost use Rattle.record.specs.Header.{headerBytes};
 ghost use Rattle.record.specs.Losses.{lossBytes};
 ghost use Rattle.record.specs.Edits.{editBytes, editsBytes};
 ghost use Rattle.record.specs.Record.{bytesOf};
 ghost use Rattle.record.specs.Tables.{editOf, editsFrom};
-ghost use Rattle.writing.specs.Placing.{Put};
+ghost use Rattle.numbers.specs.Placing.{Put};
 ghost use Rattle.record.specs.Writing.{accepted, judgedLists, recordFrom};
 ghost use Rattle.record.specs.Writing.{listsOf};
-
-// Puts a number in its shortest form, and answers where the next one goes.
-fn put_number(out: &mut [u8], at: usize, value: u32) -> usize
-    requires { ⌜ (value < 128 ^ 3) × (at + length (numberBytes limits value) ≤ length (now out)) ⌝ }
-    ensures { λ r. ⌜ Put at (numberBytes limits value) (now (out .entry)) r (now (out .exit)) ⌝ }
-{
-    if value < 128 {
-        out[at] = value as u8;
-        return at + 1;
-    }
-    out[at] = (128 + value % 128) as u8;
-    let high = value / 128;
-    let second = at + 1;
-    if high < 128 {
-        out[second] = high as u8;
-        return second + 1;
-    }
-    out[second] = (128 + high % 128) as u8;
-    let third = second + 1;
-    out[third] = (high / 128) as u8;
-    third + 1
-}
 
 fn put_header(out: &mut [u8], seats: u8, bound: u8, rounds: u16, edits: usize) -> usize
     requires { ⌜ (edits < 128 ^ 3) × (length (headerBytes limits (record { seats = seats; bound = bound; rounds = rounds; edits = edits })) ≤ length (now out)) ⌝ }

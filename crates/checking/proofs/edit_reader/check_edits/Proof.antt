@@ -1,7 +1,7 @@
 -- `record::edit_reader::check_edits` meets its contract. The loop's invariant: all edits end as what is left of them does, after the last one read.
 -- Assumes nothing.
 use Rattle.checking.proofs.EditSteps.{edit-was, edit-was-refused, edits-on, edits-stop, edits-disorder, edits-end}
-use Rattle.checking.specs.Cursors.{passedIn}
+use Rattle.checking.specs.Parts.{passedIn}
 use Rattle.record.specs.Edits.{takeEdits}
 use Rattle.record.specs.declared.edits.Before.the-variants.{Nothing}
 use Rattle.farm.specs.Limits.{limits}

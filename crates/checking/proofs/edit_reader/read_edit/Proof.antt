@@ -4,8 +4,8 @@ use Rattle.checking.specs.declared.answers.EditRead.the-variants.{Edit a
 use mir.ValLaws.{toZ-ofZ}
 use mir.Syntax.{w16}
 use lib.IntN.{ℤ}
-use Rattle.checking.proofs.CursorLaws.{Field, field-was, field-refused, cursor-drop}
-use Rattle.checking.specs.Cursors.{editIn}
+use Rattle.numbers.proofs.CursorLaws.{Field, field-was, field-refused, cursor-drop}
+use Rattle.checking.specs.Parts.{editIn}
 use Rattle.record.specs.Edits.{takeEdit}
 use Rattle.record.specs.Taking.{_>>=_}
 use denote.Ref.{now}

@@ -1,7 +1,7 @@
 -- `record::header::read_header` meets its contract: the four fields stand one after the other, and the first refusal is the header's.
 -- Assumes nothing.
-use Rattle.checking.proofs.CursorLaws.{Field, field-was, field-refused, cursor-drop}
-use Rattle.checking.specs.Cursors.{headerIn}
+use Rattle.numbers.proofs.CursorLaws.{Field, field-was, field-refused, cursor-drop}
+use Rattle.checking.specs.Parts.{headerIn}
 use Rattle.record.specs.Header.{takeHeader}
 use Rattle.record.specs.Taking.{_>>=_}
 use denote.Ref.{now}

@@ -1,8 +1,8 @@
 -- `record::losses::check_losses` meets its contract. The loop's invariant: all rounds end as what is left of them does.
 -- Assumes nothing.
 use Rattle.checking.proofs.LossSteps.{round-was, rounds-on, rounds-stop, rounds-end}
-use Rattle.checking.proofs.CursorLaws.{passed-was-refused, passed-refusal-passed}
-use Rattle.checking.specs.Cursors.{passedIn}
+use Rattle.checking.proofs.PassedLaws.{passed-was-refused, passed-refusal-passed}
+use Rattle.checking.specs.Parts.{passedIn}
 use Rattle.record.specs.Losses.{takeRounds}
 use Rattle.farm.specs.Limits.{limits}
 use denote.Ref.{now}

@@ -1,8 +1,8 @@
 -- `record::losses::check_round` meets its contract. The loop's invariant: the whole round ends as what is left of it does.
 -- Assumes nothing.
 use Rattle.checking.proofs.LossSteps.{set-was, round-on, round-stops, round-ends}
-use Rattle.checking.proofs.CursorLaws.{number-was-refused, refusal-passed}
-use Rattle.checking.specs.Cursors.{passedIn}
+use Rattle.numbers.proofs.CursorLaws.{number-was-refused, refusal-passed}
+use Rattle.checking.specs.Parts.{passedIn}
 use Rattle.record.specs.Losses.{takeRound}
 use Rattle.farm.specs.Limits.{limits}
 use denote.Ref.{now}

@@ -1,8 +1,8 @@
 -- `record::losses::read_set` meets its contract: a refusal of the number goes up unchanged, and then the set is tested.
 -- Assumes nothing.
-use Rattle.checking.proofs.CursorLaws.{number-refused, number-value, number-was, number-was-refused, refusal-passed}
+use Rattle.numbers.proofs.CursorLaws.{number-refused, number-value, number-was, number-was-refused, refusal-passed}
 use Rattle.record.proofs.LossLaws.{set-refused, set-tested}
-use Rattle.checking.specs.Cursors.{numberAt}
+use Rattle.numbers.specs.Cursors.{numberAt}
 use Rattle.record.specs.Taking.{when}
 use Rattle.farm.specs.Limits.{limits}
 use denote.Ref.{now}

@@ -1,8 +1,8 @@
 -- `record::fill::fill_losses` meets its contract. The loop's invariant: what is left to take makes the table what it is to be.
 -- Assumes nothing.
 use Rattle.reading.proofs.FillLaws.{SetsLeft, sets-start, sets-end, sets-on, sets-no-stop}
-use Rattle.checking.proofs.CursorLaws.{number-was, number-was-refused}
-use Rattle.checking.specs.Cursors.{numberAt}
+use Rattle.numbers.proofs.CursorLaws.{number-was, number-was-refused}
+use Rattle.numbers.specs.Cursors.{numberAt}
 use denote.Ref.{now}
 use borrow.Author.Needs.{needs}
 use native.Mathlib.Omega.{arith}

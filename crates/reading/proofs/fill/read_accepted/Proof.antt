@@ -5,8 +5,8 @@ use mir.ValLaws.{toZ-ofZ}
 use mir.Syntax.{w16}
 use lib.IntN.{ℤ}
 use Rattle.reading.proofs.AgainLaws.{field-again, not-refused, seat-gives, time-gives, cell-gives, change-gives}
-use Rattle.checking.proofs.CursorLaws.{Field, cursor-drop}
-use Rattle.checking.specs.Cursors.{editIn}
+use Rattle.numbers.proofs.CursorLaws.{Field, cursor-drop}
+use Rattle.checking.specs.Parts.{editIn}
 use Rattle.record.specs.Edits.{takeEdit}
 use Rattle.record.specs.Taking.{_>>=_}
 use denote.Ref.{now}

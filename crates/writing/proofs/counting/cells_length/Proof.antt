@@ -9,7 +9,7 @@ use borrow.Author.Needs.{needs}
 use Rattle.farm.specs.Limits.{limits}
 use Rattle.record.specs.Lengths.{numbersLength}
 use Rattle.writing.proofs.CountingLaws.{numbers-next, numbers-done}
-use Rattle.writing.proofs.SizeLaws.{at-most-three}
+use Rattle.numbers.proofs.ByteLaws.{at-most-three}
 use Rattle.writing.proofs.counting.cells_length.Statement.{statement}
 use Rattle.writing.proofs.counting.cells_length.Tie as tie
 

@@ -14,7 +14,7 @@ use Rattle.record.specs.Numbers.{numberBytes}
 use Rattle.record.specs.Changes.{mapped}
 use Rattle.record.specs.Lengths.{changesLength}
 use Rattle.writing.proofs.CountingLaws.{changes-next, changes-done}
-use Rattle.writing.proofs.SizeLaws.{at-most-three}
+use Rattle.numbers.proofs.ByteLaws.{at-most-three}
 use Rattle.writing.proofs.counting.changes_length.Statement.{statement}
 use Rattle.writing.proofs.counting.changes_length.Tie as tie
 

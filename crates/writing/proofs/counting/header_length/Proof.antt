@@ -5,7 +5,7 @@ use native.Mathlib.Omega.{arith}
 use lib.ListN.{length-append}
 use borrow.Author.Needs.{needs}
 use Rattle.record.specs.Header.{headerBytes}
-use Rattle.writing.proofs.SizeLaws.{at-most-three}
+use Rattle.numbers.proofs.ByteLaws.{at-most-three}
 use Rattle.writing.proofs.counting.header_length.Statement.{statement}
 use Rattle.writing.proofs.counting.header_length.Tie as tie
 

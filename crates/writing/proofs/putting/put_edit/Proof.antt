@@ -10,7 +10,7 @@ use Rattle.farm.specs.Limits.{limits}
 use Rattle.record.specs.Edits.{editBytes}
 use Rattle.record.specs.Changes.{mapped}
 use Rattle.record.specs.Numbers.{numberBytes}
-use Rattle.writing.proofs.PlacingLaws.{first-room, second-room, third-room, all-three, front-room, put-room, put-then}
+use Rattle.numbers.proofs.PlacingLaws.{first-room, second-room, third-room, all-three, front-room, put-room, put-then}
 use Rattle.writing.proofs.putting.put_edit.Statement.{statement}
 use Rattle.writing.proofs.putting.put_edit.Tie as tie
 

@@ -13,7 +13,7 @@ use Rattle.record.specs.Tables.{editOf, editsFrom}
 use Rattle.record.specs.Edits.{editBytes, editsBytes}
 use Rattle.writing.proofs.SizeLaws.{edits-bytes-next, edits-bytes-done}
 use Rattle.judging.proofs.JudgingLaws.{Place, editAt, editsAfter, change-kept}
-use Rattle.writing.proofs.PlacingLaws.{Owed, owed-first, owed-done, owed-room, owed-next}
+use Rattle.numbers.proofs.PlacingLaws.{Owed, owed-first, owed-done, owed-room, owed-next}
 use Rattle.writing.proofs.putting.put_edits.Statement.{statement}
 use Rattle.writing.proofs.putting.put_edits.Tie as tie
 

@@ -8,7 +8,7 @@ use borrow.Author.Needs.{needs}
 use Rattle.farm.specs.Limits.{limits}
 use Rattle.record.specs.Header.{headerBytes}
 use Rattle.record.specs.Numbers.{numberBytes}
-use Rattle.writing.proofs.PlacingLaws.{first-room, second-room, third-room, all-three, front-room, put-room, put-then}
+use Rattle.numbers.proofs.PlacingLaws.{first-room, second-room, third-room, all-three, front-room, put-room, put-then}
 use Rattle.writing.proofs.putting.put_header.Statement.{statement}
 use Rattle.writing.proofs.putting.put_header.Tie as tie
 

@@ -8,7 +8,7 @@ use Rattle.farm.specs.Limits.{limits}
 use Rattle.record.specs.Losses.{lossBytes}
 use Rattle.record.specs.Numbers.{numberBytes}
 use Rattle.writing.proofs.SizeLaws.{losses-next, losses-done}
-use Rattle.writing.proofs.PlacingLaws.{Owed, owed-first, owed-done, owed-room, owed-next}
+use Rattle.numbers.proofs.PlacingLaws.{Owed, owed-first, owed-done, owed-room, owed-next}
 use Rattle.writing.proofs.putting.put_losses.Statement.{statement}
 use Rattle.writing.proofs.putting.put_losses.Tie as tie
 

@@ -13,7 +13,7 @@ use Rattle.record.specs.Edits.{editsBytes}
 use Rattle.record.specs.Losses.{lossBytes}
 use Rattle.record.specs.Header.{headerBytes}
 use Rattle.record.proofs.AcceptedLaws.{accepted-header, accepted-lengths, accepted-cells}
-use Rattle.writing.proofs.PlacingLaws.{first-room, second-room, third-room, all-three}
+use Rattle.numbers.proofs.PlacingLaws.{first-room, second-room, third-room, all-three}
 use Rattle.writing.proofs.putting.put_record.Statement.{statement}
 use Rattle.writing.proofs.putting.put_record.Tie as tie
 

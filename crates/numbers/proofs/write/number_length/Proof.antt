@@ -4,9 +4,9 @@ use mathlib.Core.Path.{sym, ap}
 use Prim.Native.Nat.{_-_}
 use native.Mathlib.Omega.{arith}
 use lib.ListN.{length}
-use Rattle.writing.proofs.SizeLaws.{one-byte, two-bytes, three-bytes}
-use Rattle.writing.proofs.counting.number_length.Statement.{statement}
-use Rattle.writing.proofs.counting.number_length.Tie as tie
+use Rattle.numbers.proofs.ByteLaws.{one-byte, two-bytes, three-bytes}
+use Rattle.numbers.proofs.write.number_length.Statement.{statement}
+use Rattle.numbers.proofs.write.number_length.Tie as tie
 
 returns : tie.Need-returns
 returns c = sym (ap length (one-byte _ (c .if1 .taken)))

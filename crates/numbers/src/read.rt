@@ -1,11 +1,19 @@
 // Seven-bit numbers, read at a cursor. A number ends in its value with the next cursor, or in a
 // refusal, which goes up to the caller unchanged.
-use crate::answers::Cursor;
-use crate::answers::Number;
-use crate::answers::Passed;
 use farm::refusals::Refusal;
 ghost use mathlib.Core.Path.{_≡_};
-ghost use Rattle.checking.specs.Cursors.{numberAt, withinAt, refusalIn, passedRefusalIn};
+ghost use Rattle.numbers.specs.Cursors.{numberAt, withinAt, refusalIn};
+
+// A place in a byte string.
+pub struct Cursor {
+    pub at: usize,
+}
+
+pub enum Number {
+    // The value, and where the rest of the bytes begins.
+    Value(u32, Cursor),
+    Refused(Refusal),
+}
 
 // The number that begins at a cursor: one, two or three bytes in the shortest form.
 pub fn read_number(bytes: &[u8], from: Cursor) -> Number
@@ -54,15 +62,6 @@ pub fn refusal_of(number: Number) -> Refusal
     match number {
         Number::Value(_, _) => Refusal::OutOfRange,
         Number::Refused(refusal) => refusal,
-    }
-}
-
-pub fn passed_refusal(passed: Passed) -> Refusal
-    ensures { λ r. ⌜ r ≡ passedRefusalIn passed ⌝ }
-{
-    match passed {
-        Passed::To(_) => Refusal::OutOfRange,
-        Passed::Refused(refusal) => refusal,
     }
 }
 

@@ -5,10 +5,10 @@ use native.Mathlib.Omega.{arith}
 use lib.ListN.{length, length-set}
 use denote.Ref.{now}
 use borrow.Author.Needs.{needs}
-use Rattle.writing.proofs.PlacingLaws.{put-one, put-two, put-three}
-use Rattle.writing.proofs.SizeLaws.{one-byte, two-bytes, three-bytes, some-byte}
-use Rattle.writing.proofs.putting.put_number.Statement.{statement}
-use Rattle.writing.proofs.putting.put_number.Tie as tie
+use Rattle.numbers.proofs.PlacingLaws.{put-one, put-two, put-three}
+use Rattle.numbers.proofs.ByteLaws.{one-byte, two-bytes, three-bytes, some-byte}
+use Rattle.numbers.proofs.write.put_number.Statement.{statement}
+use Rattle.numbers.proofs.write.put_number.Tie as tie
 
 cast-out : tie.Need-cast-out
 cast-out c = search needs

@@ -2,8 +2,8 @@
 -- Assumes nothing.
 use native.Mathlib.Nat.{pos-of-ne-zero}
 use Prim.Native.Nat.{_+_}
-use Rattle.checking.proofs.CursorLaws.{ends-here, last-here, zero-here, more-here, too-long-here, number-refused, number-value}
-use Rattle.checking.specs.Cursors.{numberAt}
+use Rattle.numbers.proofs.CursorLaws.{ends-here, last-here, zero-here, more-here, too-long-here, number-refused, number-value}
+use Rattle.numbers.specs.Cursors.{numberAt}
 use Rattle.record.specs.Numbers.{takeNumber, withGroup}
 use denote.Ref.{now}
 use borrow.Author.Tests.{lt-ltb}
@@ -11,8 +11,8 @@ use mathlib.Core.Bool.{true, false}
 use mathlib.Core.Path.{_∙_, ap}
 use native.Mathlib.Omega.{arith}
 use borrow.Author.Needs.{needs}
-use Rattle.checking.proofs.numbers.read_number.Statement.{statement}
-use Rattle.checking.proofs.numbers.read_number.Tie as tie
+use Rattle.numbers.proofs.read.read_number.Statement.{statement}
+use Rattle.numbers.proofs.read.read_number.Tie as tie
 
 returns : tie.Need-returns
 unfolding numberAt takeNumber

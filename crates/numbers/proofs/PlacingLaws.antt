@@ -11,9 +11,9 @@ use lib.Seq.{take-at, drop-append-add, drop-drop, sets, sets-eq}
 use Rattle.farm.specs.Limits.{limits}
 use Rattle.record.specs.Numbers.{numberBytes}
 use Rattle.record.specs.Tables.{over}
-use Rattle.writing.specs.Placing.{Put}
+use Rattle.numbers.specs.Placing.{Put}
 use Rattle.record.proofs.TableLaws.{over-none, length-over}
-use Rattle.writing.proofs.SizeLaws.{one-byte, two-bytes, three-bytes}
+use Rattle.numbers.proofs.ByteLaws.{one-byte, two-bytes, three-bytes}
 
 -- ════ One run after the other ════
 

@@ -12,14 +12,12 @@ use lib.Seq.{drop-cons}
 use Rattle.farm.specs.Limits.{limits}
 use Rattle.farm.specs.declared.refusals.Refusal.{Refusal}
 use Rattle.farm.specs.declared.refusals.Refusal.the-variants.{EndsEarly, BadForm}
-use Rattle.checking.specs.declared.answers.Cursor.{Cursor}
-use Rattle.checking.specs.declared.answers.Number.{Number}
-use Rattle.checking.specs.declared.answers.Number.the-variants.{Value, Refused}
-use Rattle.checking.specs.declared.answers.Passed.{Passed}
-use Rattle.checking.specs.declared.answers.Passed.the-variants.{To, Refused as PassedRefused}
-use Rattle.record.specs.Taking.{Taken, value, refused, _>>=_, when}
+use Rattle.numbers.specs.declared.read.Cursor.{Cursor}
+use Rattle.numbers.specs.declared.read.Number.{Number}
+use Rattle.numbers.specs.declared.read.Number.the-variants.{Value, Refused}
+use Rattle.record.specs.Taking.{Taken, value, refused, when}
 use Rattle.record.specs.Numbers.{takeGroups, lastGroup, withGroup, takeNumber, takeWithin}
-use Rattle.checking.specs.Cursors.{cursorAt, numberIn, numberAt, withinAt, refusalIn, passedIn, passedRefusalIn}
+use Rattle.numbers.specs.Cursors.{cursorAt, numberIn, numberAt, withinAt, refusalIn}
 use Rattle.record.proofs.TakingLaws.{Tail, tail-drop, tail-trans, tail-of-drop}
 use Rattle.record.proofs.NumberLaws.{take-last, take-more, take-too-long, last-good, number-tail, within-value}
 
@@ -87,29 +85,6 @@ pub number-value : (bytes : List ℕ) (t : Taken ℕ) (v next : ℕ) → t ≡ v
     → Value v (record { at = next }) ≡ numberIn bytes t
 unfolding numberIn
 number-value bytes t v next e h = rw (e, cursor-drop bytes next h)
-
--- A part that was looked through, the same way.
-pub passed-was-refused : {A : Type 0} (bytes : List ℕ) (t : Taken A) (r : Refusal) → passedIn bytes t ≡ PassedRefused r → t ≡ refused r
-unfolding passedIn
-passed-was-refused bytes (value v rest) r e = let z : _≡_ {A = ℕ} 0 1 = cc in absurd (omega arith)
-passed-was-refused bytes (refused s) r e = let same : s ≡ r = cc in ap refused same
-
-pub passed-was : {A : Type 0} (bytes : List ℕ) (t : Taken A) (next : Cursor) → ((a : A) (rest : List ℕ) → t ≡ value a rest → Tail rest bytes)
-    → passedIn bytes t ≡ To next → (a : A) × Placed bytes t a (next .at)
-unfolding passedIn
-passed-was bytes (value a rest) next tail e =
-    let place : cursorAt bytes rest ≡ next = cc in
-    (a, placed bytes a rest (next .at) (tail a rest refl) (ap (λ (c : Cursor). c .at) place))
-passed-was bytes (refused r) next tail e = let z : _≡_ {A = ℕ} 0 1 = cc in absurd (omega arith)
-
-pub passed-refusal-passed : (p : Passed) (r x : Refusal) → r ≡ passedRefusalIn p → p ≡ PassedRefused x → p ≡ PassedRefused r
-passed-refusal-passed p r x e f = f ∙ ap PassedRefused (sym (e ∙ ap passedRefusalIn f))
-
--- What follows a part changes nothing of where it ends.
-pub passed-mapped : {A B : Type 0} (all : List ℕ) (t : Taken A) (f : A → B) → passedIn all (t >>= (λ x. value (f (x .0)) (x .1))) ≡ passedIn all t
-unfolding passedIn _>>=_
-passed-mapped all (value a rest) f = refl
-passed-mapped all (refused r) f = refl
 
 -- And back: what was taken, from the answer.
 pub number-was-refused : (bytes : List ℕ) (t : Taken ℕ) (r : Refusal) → numberIn bytes t ≡ Refused r → t ≡ refused r

@@ -1,14 +1,14 @@
 -- `record::numbers::read_within` meets its contract: a refusal of the number goes up unchanged, and a value outside the range is refused.
 -- Assumes nothing.
-use Rattle.checking.proofs.CursorLaws.{number-refused, number-value, number-was, number-was-refused, refusal-passed}
+use Rattle.numbers.proofs.CursorLaws.{number-refused, number-value, number-was, number-was-refused, refusal-passed}
 use Rattle.record.proofs.NumberLaws.{within-refused, within-below, within-above, within-good}
-use Rattle.checking.specs.Cursors.{numberAt, withinAt}
+use Rattle.numbers.specs.Cursors.{numberAt, withinAt}
 use Rattle.farm.specs.Limits.{limits}
 use denote.Ref.{now}
 use mathlib.Core.Path.{sym, _∙_}
 use borrow.Author.Needs.{needs}
-use Rattle.checking.proofs.numbers.read_within.Statement.{statement}
-use Rattle.checking.proofs.numbers.read_within.Tie as tie
+use Rattle.numbers.proofs.read.read_within.Statement.{statement}
+use Rattle.numbers.proofs.read.read_within.Tie as tie
 
 read-number-requires : tie.Need-read-number-requires
 read-number-requires c κs = search needs

@@ -1,0 +1,4 @@
+pub mod CursorLaws
+pub mod ByteLaws
+pub mod PlacingLaws
+pub mod CompleteLaws
