@@ -22,7 +22,7 @@ returns c =
     let a = c .before .before .before .before .before .before .before .before .before .args in
     let lists = listsOf (now (a .losses)) (now (a .editors)) (now (a .times)) (now (a .cells)) (now (a .changes)) in
     let o = refused-outcome limits (a .seats) (a .bound) (a .rounds) lists _ (now (a .out)) (answer-refused _ _ (sym (c .before .before .before .judge .ensures) ∙ c .before .judged .given .1)) in
-    ((cc), (cc))
+    (o .answers, o .leaves)
 
 enum-told : tie.Need-enum-told
 enum-told c = search needs
@@ -36,7 +36,7 @@ returns-2 c =
     let lists = listsOf (now (a .losses)) (now (a .editors)) (now (a .times)) (now (a .cells)) (now (a .changes)) in
     let v = answer-accepted _ (sym (c .before .before .before .before .judge .ensures) ∙ c .before .before .enum-told .given .1) in
     let o = no-room-outcome limits (a .seats) (a .bound) (a .rounds) lists v (now (a .out)) (sym (c .before .has-room .ensures) ∙ not-true _ (c .if1 .taken)) in
-    ((cc), (cc))
+    (o .answers, o .leaves)
 
 put-record-requires : tie.Need-put-record-requires
 put-record-requires c κs =
@@ -54,7 +54,7 @@ returns-3 c =
     let lists = listsOf (now (a .losses)) (now (a .editors)) (now (a .times)) (now (a .cells)) (now (a .changes)) in
     let v = answer-accepted _ (sym (c .before .before .before .before .before .before .before .before .judge .ensures) ∙ c .before .before .before .before .before .before .enum-told .given .1) in
     let o = written-outcome limits (a .seats) (a .bound) (a .rounds) lists v (now (a .out)) _ _ (sym (c .before .before .before .before .before .has-room .ensures) ∙ not-false _ (c .before .before .before .before .if1 .left)) (c .before .before .put-record .ensures) in
-    ((cc), (cc))
+    (o .answers, o .leaves)
 
 pub write-spec : {M : Type 1} → statement M
 write-spec =
