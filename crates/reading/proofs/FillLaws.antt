@@ -1,6 +1,7 @@
 -- The second pass over a good record: each turn takes what the first pass took, and puts it in its place.
 -- Assumes nothing.
 use mathlib.Core.Path.{_≡_, refl, sym, _∙_, ap, ap₂, subst}
+use mathlib.Core.Bool.{Bool, true, false}
 use mathlib.Core.List.{List, [], _∷_}
 use Prim.Native.Nat.{ℕ, suc, _+_, _-_, _<_, _≤_}
 use native.Mathlib.Nat.{sub-zero}
@@ -13,12 +14,11 @@ use Rattle.checking.specs.declared.answers.Passed.the-variants.{To}
 use Rattle.record.specs.declared.edits.Edit.{Edit}
 use Rattle.record.specs.declared.edits.Before.{Before}
 use Rattle.record.specs.declared.edits.Before.the-variants.{Nothing, This}
-use Rattle.record.specs.Taking.{value, refused, _>>=_, when}
+use Rattle.record.specs.Taking.{Taken, value, refused, _>>=_, when}
 use Rattle.record.specs.Numbers.{takeNumber}
 use Rattle.record.specs.Edits.{follows, takeEdit, takeEdits}
-use Rattle.reading.specs.Filling.{Gives, given, takeNumbers, AllBelow}
+use Rattle.reading.specs.Filling.{Gives, given, takeNumbers, AllBelow, EditsFilled}
 use Rattle.record.specs.Tables.{Tables, tables, over, seatsOf, timesOf, cellsOf, changesOf}
-use Rattle.reading.specs.Filling.{EditsFilled}
 use Rattle.checking.specs.Parts.{passedIn}
 use Rattle.record.proofs.TakingLaws.{bind-value, when-value, value-not-refused}
 use Rattle.numbers.proofs.CursorLaws.{cursor-drop, Placed}
@@ -147,6 +147,20 @@ edits-start bytes n R count old gives =
       changes = rw (gives .took) (column-start (changesOf (gives .what)) (old .changes));
     }
 
+-- Edits that were taken come apart into the first one and the later ones.
+edits-split : (n R left : ℕ) (before : Before) (bytes : List ℕ) (edits : List Edit) (rest : List ℕ) (e : Edit) (after : List ℕ)
+    → takeEdits limits n R (suc left) before bytes ≡ value edits rest → takeEdit limits n R bytes ≡ value e after
+    → (later : List Edit) × (edits ≡ e ∷ later) × (takeEdits limits n R left (This e) after ≡ value later rest)
+unfolding takeEdits _>>=_ when
+edits-split n R left before bytes edits rest e after h q =
+    by (follows before e) (takeEdits limits n R left (This e) after) (rw q at h)
+  where
+    by : (good : Bool) (t : Taken (List Edit)) → (when good BadOrder t >>= (λ x. value (e ∷ x .0) (x .1))) ≡ value edits rest
+        → (later : List Edit) × (edits ≡ e ∷ later) × (t ≡ value later rest)
+    by true (value later end) f = (later, (cc), (cc))
+    by true (refused r) f = absurd (value-not-refused edits rest r (sym f))
+    by false t f = absurd (value-not-refused edits rest BadOrder (sym f))
+
 module _ (bytes : List ℕ) (n R count at i : ℕ) (old present : Tables) (s : EditsLeft bytes n R count at i old present) where
   pub edits-filled : count ≤ i → EditsFilled (given (takeEdits limits n R count Nothing bytes)) old present
   unfolding takeEdits seatsOf timesOf cellsOf changesOf
@@ -178,21 +192,11 @@ module _ (bytes : List ℕ) (n R count at i : ℕ) (old present : Tables) (s : E
         → EditsLeft bytes n R count next (i + 1) old
         (tables (present .losses) (set (present .seats) i (e .seat .0)) (set (present .times) i (e .time .0))
         (set (present .cells) i (e .cell)) (set (present .changes) i (e .change)))
-    unfolding takeEdits seatsOf timesOf cellsOf changesOf
+    unfolding seatsOf timesOf cellsOf changesOf
     edits-on a b c d e next was =
         let next-left : count - i ≡ suc (count - (i + 1)) = omega arith in
-        let x = bind-value (takeEdit limits n R (drop at bytes)) _ (s .left) (s .rest) (rw next-left at (s .took)) in
-        let y = bind-value (when (follows (s .before) (x .0)) BadOrder (takeEdits limits n R (count - (i + 1)) (This (x .0)) (x .1))) _
-        (s .left) (s .rest) (x .3) in
-        let z = when-value (follows (s .before) (x .0)) BadOrder _ (y .0) (y .1) (y .2) in
-        let first : value (x .0) (x .1) ≡ value e (drop next bytes) = sym (x .2) ∙ was .took in
-        let same-e : x .0 ≡ e = cc in
-        let same-rest : x .1 ≡ drop next bytes = cc in
-        let front : s .left ≡ e ∷ y .0 = cc in
-        let ends : y .1 ≡ s .rest = cc in
-        by (y .0) front
-        (ap₂ (λ (f : Edit) (l : List ℕ). takeEdits limits n R (count - (i + 1)) (This f) l) (sym same-e) (sym same-rest)
-        ∙ z .1 ∙ ap (value (y .0)) ends)
+        let w = edits-split n R (count - (i + 1)) (s .before) (drop at bytes) (s .left) (s .rest) e (drop next bytes) (rw next-left at (s .took)) (was .took) in
+        by (w .0) (w .1) (w .2)
       where
         by : (later : List Edit) → s .left ≡ e ∷ later
             → takeEdits limits n R (count - (i + 1)) (This e) (drop next bytes) ≡ value later (s .rest)
