@@ -20,10 +20,10 @@ use Rattle.live.specs.declared.answers.Done.the-variants as done
 use Rattle.live.specs.declared.table.Table.{Table}
 use Rattle.live.specs.Answers.{doneOf}
 use Rattle.live.specs.Calls.{Call, answerTo, tableAfter}
-use Rattle.page.specs.Digits.{Text}
-use Rattle.page.specs.declared.lines.Printed.{Printed}
-use Rattle.page.specs.declared.lines.Printed.the-variants as printed
-use Rattle.listing.specs.Printing.{pageRoom}
+use Rattle.lines.specs.Digits.{Text}
+use Rattle.lines.specs.declared.printing.Printed.{Printed}
+use Rattle.lines.specs.declared.printing.Printed.the-variants as printed
+use Rattle.page.specs.Printing.{pageRoom}
 
 abbrev pub checkedNumber : Checked → ℕ
 checkedNumber (checked.Good header) = 0

@@ -1,8 +1,8 @@
 // The number that stands for an answer: document 01's number of the refusal, or 0 where there is none.
 use farm::refusals::Refusal;
 use farm::refusals::number;
+use lines::printing::Printed;
 use live::answers::Done;
-use page::lines::Printed;
 use questions::answers::Given;
 use record::answers::Checked;
 use record::answers::Written;

@@ -1,16 +1,16 @@
 // The lister's page of a record given as bytes, for a host in C. The length goes behind a reference, and all
 // stays as it was where the buffer has not the room for any page.
 use crate::codes::printed_number;
-use listing::pages::write_page;
-use page::lines::Printed;
+use lines::printing::Printed;
+use page::writing::write_page;
 ghost use mathlib.Core.Path.{_≡_};
 ghost use mathlib.Core.Bool.{cond};
 ghost use lib.Dec.{leb};
 ghost use lib.ListN.{length};
 ghost use Rattle.record.specs.Document.{readingOf};
-ghost use Rattle.page.specs.Printing.{written};
-ghost use Rattle.listing.specs.Page.{pageOf};
-ghost use Rattle.listing.specs.Printing.{pageRoom};
+ghost use Rattle.lines.specs.Printing.{written};
+ghost use Rattle.page.specs.Page.{pageOf};
+ghost use Rattle.page.specs.Printing.{pageRoom};
 ghost use Rattle.bindings.specs.Codes.{pagePrinted, printedNumber, pageLengthLeft};
 
 // The length of the page; where there was no room the number stays as it is.

@@ -6,9 +6,9 @@ use crate::input::Input;
 use crate::input::take_input;
 use libc::STDERR_FILENO;
 use libc::STDOUT_FILENO;
-use listing::pages::PAGE_ROOM;
-use listing::pages::write_page;
-use page::lines::Printed;
+use lines::printing::Printed;
+use page::writing::PAGE_ROOM;
+use page::writing::write_page;
 
 // The longest good record, and one byte more: enough to see that a record is too long.
 const LONGEST: usize = 4_990;

@@ -1,70 +1,104 @@
--- Each line as the texts that the code puts one after the other. Assumes nothing.
-use mathlib.Core.Path.{_≡_}
-use mathlib.Core.Bool.{Bool}
-use mathlib.Core.List.{[], _∷_, _++_, map, append-assoc, append-nil}
-use Prim.Native.Nat.{ℕ}
-use lib.ListN.{take}
+-- The line of a place, from what was asked of the place, and what a printed line leaves. Seats with one known set at a time
+-- are given one answer. Assumes nothing.
+use mathlib.Core.Path.{_≡_, sym, _∙_, ap}
+use mathlib.Core.Bool.{Bool, true}
+use mathlib.Core.List.{List}
+use Prim.Native.Nat.{ℕ, _+_, _<_, _≤_}
+use native.Mathlib.Omega.{arith}
+use lib.ListN.{length, take, drop, getD}
+use lib.Seq.{take-append-le}
+use borrow.Author.Tests.{lt-ltb, le-leb}
+use Rattle.farm.specs.Sets.{Seats, bit}
 use Rattle.farm.specs.declared.places.Seat.{Seat}
 use Rattle.farm.specs.declared.places.Time.{Time}
-use Rattle.page.specs.declared.lines.HeaderLine.{HeaderLine}
-use Rattle.page.specs.declared.lines.PlaceLine.{PlaceLine}
-use Rattle.page.specs.Digits.{Text, decimal, signed}
-use Rattle.page.specs.Lines.{headerLine, standing, placeText, placeLine, overLine, refusedLine}
-use Rattle.page.specs.Words.{ascii, blank, newline, following, line}
-use Rattle.page.proofs.WordLaws.{following-append}
+use Rattle.knowledge.specs.Farm.{Farm, losers}
+use Rattle.knowledge.specs.Views.{latestTimes}
+use Rattle.knowledge.specs.Known.{knownOf}
+use Rattle.knowledge.specs.Settled.{Settled, Outcome, overBound, settled, settle, outcomeOf}
+use Rattle.construction.specs.Counts.{room, counts, knownSets}
+use Rattle.construction.proofs.ViewSteps.{counts-at}
+use Rattle.questions.specs.Answers.{laid, noTimes, placeAnswer}
+use Rattle.questions.specs.Question.{byValue, isPlace, ofOutcome, settledIn}
+use Rattle.questions.specs.declared.answers.Given.{Given}
+use Rattle.questions.specs.declared.answers.Place.{Place}
+use Rattle.questions.proofs.AskLaws.{settled-valued}
+use Rattle.questions.proofs.TimeLaws.{length-times}
+use Rattle.lines.specs.Digits.{Text}
+use Rattle.lines.specs.Lines.{placeLine}
+use Rattle.lines.specs.Printing.{Puts, Prints, lineRoom}
+use Rattle.lines.specs.declared.printing.Printed.{Printed}
+use Rattle.lines.specs.declared.printing.Printed.the-variants.{Length}
+use Rattle.page.specs.Page.{lineOf, lineAt}
+use Rattle.page.specs.Printing.{countFrom, endIn, lineFrom, lineGiven, lineIn}
 
--- ════ The texts, grouped as the code puts them ════
+-- Where there is room, the line is put.
+pub printed-put : {text : Text} {at end : ℕ} {old new : List ℕ} {printed : Printed} → at + lineRoom ≤ length old
+    → Prints text at old new printed → end ≡ endIn printed → Puts text at old new end × (end ≤ at + lineRoom)
+printed-put {text} {at} {end} {old} {printed = printed} room p e =
+    let fits = le-leb (at + lineRoom) (length old) room in
+    let short = p .short fits in
+    let answer : printed ≡ Length (at + length text) = rw fits at (p .answered) in
+    let ends : end ≡ at + length text = e ∙ ap endIn answer in
+    (record { end = ends; bytes = rw fits at (p .bytes) }, omega arith)
 
-four-pairs : (a b c d e f g h end : Text)
-    → a ++ (b ++ (c ++ (d ++ (e ++ (f ++ (g ++ (h ++ []))))))) ++ end ≡ (a ++ b) ++ (c ++ d) ++ (e ++ f) ++ (g ++ h) ++ end
-four-pairs a b c d e f g h end = simp (append-assoc, append-nil)
+-- Of the times past n none is printed.
+core-alone : (n : ℕ) (place : Place) (s : Settled) (ℓ : Time) (p : Seat) (loser : Bool)
+    → place .latest ≡ laid (latestTimes n (s .core)) noTimes
+    → placeLine (lineFrom place n ℓ p loser)
+    ≡ placeLine (record {
+      time = ℓ;
+      seat = p;
+      loser = loser;
+      critical = place .summary .critical;
+      steps = place .summary .steps;
+      seats = n;
+      core = latestTimes n (s .core);
+      count = place .count;
+    })
+unfolding placeLine
+core-alone n place s ℓ p loser e =
+    let full = length-times n (s .core) in
+    let inside : n ≤ length (latestTimes n (s .core)) = omega arith in
+    let same : take n (place .latest) ≡ take n (latestTimes n (s .core)) =
+    ap (take n) e ∙ take-append-le n (latestTimes n (s .core)) (drop (length (latestTimes n (s .core))) noTimes) inside in
+    rw same
 
-six-parts : (a b c d e f g end : Text)
-    → a ++ (b ++ (c ++ (d ++ (e ++ (f ++ (g ++ [])))))) ++ end ≡ (a ++ (b ++ (c ++ []))) ++ d ++ e ++ f ++ g ++ end
-six-parts a b c d e f g end = simp (append-assoc, append-nil)
+is-place : (farm : Farm) (p : Seat) (ℓ : Time) → p .0 < farm .seats → ℓ .0 ≤ farm .rounds → isPlace farm p ℓ ≡ true
+unfolding isPlace
+is-place farm p ℓ here early = rw (lt-ltb (p .0) (farm .seats) here, le-leb (ℓ .0) (farm .rounds) early)
 
-three-parts : (a b c d end : Text) → a ++ (b ++ (c ++ (d ++ []))) ++ end ≡ (a ++ (b ++ (c ++ []))) ++ (d ++ end)
-three-parts a b c d end = simp (append-assoc, append-nil)
+-- The line of what was asked of a place is the place's line.
+pub line-at : (farm : Farm) (seats times : List ℕ) (lost : Seats) (ℓ : Time) (p : Seat) (place : Place) → lost ≡ losers farm → p .0 < farm .seats
+    → ℓ .0 ≤ farm .rounds → place ≡ placeAnswer (farm .seats) seats times (settledIn byValue 0 farm p ℓ)
+    → lineIn place (farm .seats) ℓ p (bit lost (p .0)) ≡ lineAt farm (countFrom seats times) ℓ p
+unfolding lineAt lineOf lineGiven placeAnswer ofOutcome countFrom
+line-at farm seats times lost ℓ p place all here early e =
+    rw all (by (outcomeOf farm p ℓ) (e ∙ ap (placeAnswer (farm .seats) seats times) (settled-valued farm p ℓ 0 (is-place farm p ℓ here early))))
+  where
+    by : (o : Outcome) → place ≡ placeAnswer (farm .seats) seats times (ofOutcome o)
+        → lineIn place (farm .seats) ℓ p (bit (losers farm) (p .0)) ≡ lineOf farm (countFrom seats times) ℓ p o
+    by overBound f = rw f
+    by (settled s) f =
+        ap (λ (g : Given). lineGiven g (lineFrom place (farm .seats) ℓ p (bit (losers farm) (p .0)))) (ap (λ (x : Place). x .given) f)
+        ∙ core-alone (farm .seats) place s ℓ p (bit (losers farm) (p .0)) (ap (λ (x : Place). x .latest) f)
+        ∙ rw f
 
-one-pair : (a b end : Text) → a ++ (b ++ []) ++ end ≡ (a ++ b) ++ end
-one-pair a b end = simp append-nil
+-- ════ Seats with one known set ════
 
--- ════ The lines ════
+pub same-settled : (farm : Farm) (ℓ : Time) (p q : Seat) → p .0 < farm .seats → q .0 < farm .seats → ℓ .0 ≤ farm .rounds
+    → knownOf farm p ℓ ≡ knownOf farm q ℓ → settledIn byValue 0 farm p ℓ ≡ settledIn byValue 0 farm q ℓ
+same-settled farm ℓ p q hp hq early e =
+    settled-valued farm p ℓ 0 (is-place farm p ℓ hp early)
+    ∙ ap (λ (known : Seats). ofOutcome (settle farm (ℓ .0) known)) e
+    ∙ sym (settled-valued farm q ℓ 0 (is-place farm q ℓ hq early))
 
-pub header-text : (h : HeaderLine) → headerLine h
-    ≡ (ascii "seats" ++ blank ∷ decimal (h .seats))
-    ++ (ascii " bound" ++ blank ∷ decimal (h .bound))
-    ++ (ascii " rounds" ++ blank ∷ decimal (h .rounds))
-    ++ (ascii " edits" ++ blank ∷ decimal (h .edits))
-    ++ newline ∷ []
-unfolding headerLine line following ascii
-header-text h =
-    four-pairs (ascii "seats") (blank ∷ decimal (h .seats)) (ascii " bound") (blank ∷ decimal (h .bound))
-    (ascii " rounds") (blank ∷ decimal (h .rounds)) (ascii " edits") (blank ∷ decimal (h .edits)) (newline ∷ [])
-
-pub place-begins : (time : Time) (seat : Seat) (loser : Bool) → placeText time seat loser
-    ≡ decimal (time .0) ++ blank ∷ decimal (seat .0) ++ blank ∷ [] ++ standing loser
-unfolding placeText following
-place-begins time seat loser = simp (append-assoc, append-nil)
-
-pub place-text : (p : PlaceLine) → placeLine p
-    ≡ placeText (p .time) (p .seat) (p .loser)
-    ++ blank ∷ signed (p .critical)
-    ++ blank ∷ decimal (p .steps)
-    ++ following (map signed (take (p .seats) (p .core)))
-    ++ blank ∷ decimal (p .count)
-    ++ newline ∷ []
-unfolding placeLine line placeText following
-place-text p =
-    rw (following-append (map signed (take (p .seats) (p .core))) (decimal (p .count) ∷ []))
-    (six-parts (decimal (p .time .0)) (blank ∷ decimal (p .seat .0)) (blank ∷ standing (p .loser)) (blank ∷ signed (p .critical))
-    (blank ∷ decimal (p .steps)) (following (map signed (take (p .seats) (p .core)))) (blank ∷ decimal (p .count)) (newline ∷ []))
-
-pub over-text : (time : Time) (seat : Seat) (loser : Bool) → overLine time seat loser ≡ placeText time seat loser ++ ascii " over\n"
-unfolding overLine line placeText following ascii
-over-text time seat loser =
-    three-parts (decimal (time .0)) (blank ∷ decimal (seat .0)) (blank ∷ standing loser) (ascii " over") (newline ∷ [])
-
-pub refused-text : (number : ℕ) → refusedLine number ≡ ascii "refused" ++ blank ∷ decimal number ++ newline ∷ []
-unfolding refusedLine line following ascii
-refused-text number = one-pair (ascii "refused") (blank ∷ decimal number) (newline ∷ [])
+pub same-place : (farm : Farm) (seats times sets : List ℕ) (ℓ : Time) (p q : Seat) (place : Place) → farm .seats ≤ room
+    → p .0 < farm .seats → q .0 < farm .seats → ℓ .0 ≤ farm .rounds → sets ≡ counts (farm .seats) (knownSets farm ℓ)
+    → getD sets (p .0) 0 ≡ getD sets (q .0) 0
+    → place ≡ placeAnswer (farm .seats) seats times (settledIn byValue 0 farm p ℓ)
+    → place ≡ placeAnswer (farm .seats) seats times (settledIn byValue 0 farm q ℓ)
+unfolding knownSets
+same-place farm seats times sets ℓ p q place small hp hq early e same f =
+    let known : (s : Seat) → s .0 < farm .seats → getD sets (s .0) 0 ≡ knownOf farm s ℓ =
+    λ s h. rw e (counts-at (farm .seats) (knownSets farm ℓ) (s .0) small h) in
+    f ∙ ap (placeAnswer (farm .seats) seats times) (same-settled farm ℓ p q hp hq early (sym (known p hp) ∙ same ∙ known q hq))

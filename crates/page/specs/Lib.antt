@@ -1,7 +1,4 @@
--- Document 01, "The lister's page": the text of the page, and what printing a piece of it into a lent buffer means.
-pub mod Digits
-pub mod Words
-pub mod Lines
+-- Document 01, "The lister's page", whole: what the page of a record is, and what writing it into a lent buffer means.
+pub mod Page
 pub mod Printing
-pub mod Examples
 pub mod Promises

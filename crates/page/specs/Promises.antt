@@ -1,32 +1,62 @@
--- What is promised of the text, over any numbers, as statements. Their proofs stand under the same names in proofs/Promises.antt.
+-- What is promised of the page, as statements. Their proofs stand under the same names in proofs/Promises.antt.
 use mathlib.Core.Path.{_≡_}
-use mathlib.Core.Bool.{Bool, true, false}
-use Prim.Native.Nat.{ℕ, _<_, _≤_}
-use lib.ListN.{length, getD}
-use Rattle.farm.specs.declared.places.Seat.{Seat}
-use Rattle.farm.specs.declared.places.Time.{Time}
-use Rattle.page.specs.declared.lines.HeaderLine.{HeaderLine}
-use Rattle.page.specs.declared.lines.PlaceLine.{PlaceLine}
-use Rattle.page.specs.Digits.{digit, decimal, valueOf}
-use Rattle.page.specs.Lines.{headerLine, placeLine, overLine, refusedLine}
-use Rattle.page.specs.Words.{tidy}
+use mathlib.Core.List.{List, [], _∷_, _++_}
+use Prim.Native.Nat.{ℕ}
+use Rattle.farm.specs.Refusals.{numberOf}
+use Rattle.farm.specs.declared.refusals.Refusal.{Refusal}
+use Rattle.record.specs.Document.{readingOf}
+use Rattle.record.specs.Record.{bad}
+use Rattle.lines.specs.Digits.{Text}
+use Rattle.lines.specs.Words.{ascii}
+use Rattle.lines.specs.Lines.{refusedLine}
+use Rattle.page.specs.Page.{pageOf}
 
--- Read back, the digits are the number.
-abbrev pub Digits-read-back : Type 0
-Digits-read-back = (v : ℕ) → valueOf 0 (decimal v) ≡ v
+-- ════ The page that document 01 prints ════
 
--- They are the shortest: no number but 0 begins with `0`.
-abbrev pub Digits-shortest : Type 0
-Digits-shortest = (v : ℕ) → 0 < v → digit 0 < getD (decimal v) 0 0
+-- The losses of P4, one edit by seat 2 at time 0, cell 5, change −3.
+abbrev printedBytes : List ℕ
+printedBytes =
+    0x03 ∷ 0x01 ∷ 0x02 ∷ 0x01 ∷ 0x00 ∷ 0x00 ∷ 0x01 ∷ 0x00 ∷ 0x00 ∷ 0x00 ∷ 0x02 ∷ 0x00 ∷ 0x05 ∷ 0x05 ∷ []
 
--- A number of 16 bits has at most 5 of them, and one of 32 bits at most 10.
-abbrev pub Digits-few : Type 0
-Digits-few = ((v : ℕ) → v < 65536 → length (decimal v) ≤ 5) × ((v : ℕ) → v < 4294967296 → length (decimal v) ≤ 10)
+unfoldable pub printedPage : Text
+printedPage =
+    ascii "seats 3 bound 1 rounds 2 edits 1\n"
+    ++ ascii "0 0 C -2 1 -1 -1 -1 0\n"
+    ++ ascii "0 1 C -2 1 -1 -1 -1 0\n"
+    ++ ascii "0 2 L -2 1 -1 -1 -1 0\n"
+    ++ ascii "1 0 C -1 2 -1 -1 -1 0\n"
+    ++ ascii "1 1 C -1 1 -1 -1 -1 0\n"
+    ++ ascii "1 2 L -1 1 -1 -1 -1 0\n"
+    ++ ascii "2 0 C 1 1 1 1 0 1\n"
+    ++ ascii "2 1 C 1 1 1 1 0 1\n"
+    ++ ascii "2 2 L 1 1 1 1 0 1\n"
 
--- Whatever its numbers are, a line has single blanks, no blank at its end, and one newline, which is its last byte.
-abbrev pub Lines-tidy : Type 0
-Lines-tidy =
-    ((h : HeaderLine) → tidy false (headerLine h) ≡ true)
-    × ((p : PlaceLine) → tidy false (placeLine p) ≡ true)
-    × ((time : Time) (seat : Seat) (loser : Bool) → tidy false (overLine time seat loser) ≡ true)
-    × ((number : ℕ) → tidy false (refusedLine number) ≡ true)
+abbrev pub Printed-page : Type 0
+Printed-page = pageOf (readingOf printedBytes) ≡ printedPage
+
+-- P9's losses: seat 0 is refused 9 at time 1, and its line keeps the letter.
+abbrev overBytes : List ℕ
+overBytes = 0x03 ∷ 0x01 ∷ 0x01 ∷ 0x00 ∷ 0x00 ∷ 0x01 ∷ 0x01 ∷ []
+
+unfoldable pub overPage : Text
+overPage =
+    ascii "seats 3 bound 1 rounds 1 edits 0\n"
+    ++ ascii "0 0 C -2 1 -1 -1 -1 0\n"
+    ++ ascii "0 1 L -2 1 -1 -1 -1 0\n"
+    ++ ascii "0 2 L -2 1 -1 -1 -1 0\n"
+    ++ ascii "1 0 C over\n"
+    ++ ascii "1 1 L -1 1 -1 -1 -1 0\n"
+    ++ ascii "1 2 L -1 1 -1 -1 -1 0\n"
+
+abbrev pub Over-page : Type 0
+Over-page = pageOf (readingOf overBytes) ≡ overPage
+
+-- ════ Bad records ════
+
+-- A bad record gives one line, `refused` and the number, and nothing else.
+abbrev pub Bad-records : Type 0
+Bad-records = (bytes : List ℕ) (refusal : Refusal) → readingOf bytes ≡ bad refusal → pageOf (readingOf bytes) ≡ refusedLine (numberOf refusal)
+
+-- No input at all is the empty record, refused 1.
+abbrev pub No-input : Type 0
+No-input = pageOf (readingOf []) ≡ ascii "refused 1\n"

@@ -1,6 +1,4 @@
-// The text of the lister's page, made line by line in a buffer that the caller lends. Document 01,
-// "The lister's page". Nothing here reads records or asks questions: a line is made from its numbers.
-mod digits; // digits.rt: numbers in decimal
-mod fields; // fields.rt: what follows in a line, a blank before it
-pub mod lines; // lines.rt: the lines of the page
-mod words; // words.rt: bytes and words
+// The page of a record, whole, in a buffer that the caller lends. Document 01, "The lister's page". The
+// record is read once. At each time a known set is settled once for the seats in a row that share it.
+mod places; // places.rt: the lines of an accepted record's places
+pub mod writing; // writing.rt: the page of a record given as bytes

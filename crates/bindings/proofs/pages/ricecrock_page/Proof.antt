@@ -3,7 +3,7 @@
 use mathlib.Core.Path.{_∙_, ap}
 use denote.Ref.{now}
 use borrow.Author.Needs.{needs}
-use Rattle.page.specs.declared.lines.Printed.{Printed}
+use Rattle.lines.specs.declared.printing.Printed.{Printed}
 use Rattle.bindings.specs.Codes.{printedNumber, pageLengthLeft}
 use Rattle.bindings.proofs.pages.ricecrock_page.Statement.{statement}
 use Rattle.bindings.proofs.pages.ricecrock_page.Tie as tie

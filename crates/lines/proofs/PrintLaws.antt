@@ -1,0 +1,80 @@
+-- Texts put one after the other into a buffer are their join put at once. Assumes nothing.
+use mathlib.Core.Path.{_≡_, refl, sym, _∙_, ap}
+use mathlib.Core.List.{List, [], _∷_, _++_, append-assoc}
+use Prim.Native.Nat.{ℕ, suc, _+_, _<_, _≤_}
+use native.Mathlib.Omega.{arith}
+use native.Mathlib.Nat.{add-assoc, add-zero}
+use native.Mathlib.Numerals.{add-one}
+use mathlib.Core.Bool.{true, false}
+use lib.Dec.{leb}
+use lib.ListN.{length, take, drop, set, length-append, length-drop}
+use lib.Seq.{length-take-le, take-at, drop-at, drop-append-add, drop-drop, set-split, take-set-le, paste-zero}
+use Rattle.lines.specs.Digits.{Text}
+use Rattle.lines.specs.Printing.{written, Puts, Prints, lineRoom}
+use Rattle.lines.specs.declared.printing.Printed.the-variants.{Length, NoRoom}
+
+-- A byte that is stored is a text of one byte.
+pub put-one : (buffer : List ℕ) (at byte : ℕ) → at < length buffer → set buffer at byte ≡ written (byte ∷ []) at buffer
+unfolding written
+put-one buffer at byte h = set-split buffer at byte h ∙ rw (append-assoc, add-one) refl
+
+-- A byte that is stored before the text in front of it: what digits that are put from the last one ask for.
+pub put-last : (buffer : List ℕ) (at : ℕ) (a : Text) (byte : ℕ) → at + length a < length buffer
+    → written a at (set buffer (at + length a) byte) ≡ written (a ++ byte ∷ []) at buffer
+unfolding written
+put-last buffer at a byte h =
+    let before : at ≤ at + length a = omega arith in
+    rw (take-set-le at buffer (at + length a) byte, rest, length-append, ← add-assoc, add-one) (simp append-assoc)
+  where
+    rest : drop (at + length a) (set buffer (at + length a) byte) ≡ byte ∷ drop (suc (at + length a)) buffer
+    rest =
+        rw (set-split buffer (at + length a) byte h)
+        (drop-at (take (at + length a) buffer) _ (at + length a) (length-take-le (at + length a) buffer (omega arith)))
+
+module _ (buffer : List ℕ) (at : ℕ) (inside : at ≤ length buffer) where
+  front : (a : Text) → length (take at buffer ++ a) ≡ at + length a
+  front a = length-append (take at buffer) a ∙ ap (λ (n : ℕ). n + length a) (length-take-le at buffer inside)
+
+  pub length-written : (a : Text) → at + length a ≤ length buffer → length (written a at buffer) ≡ length buffer
+  unfolding written
+  length-written a h = rw (length-append, front a, length-drop) (omega arith)
+
+  pub written-then : (a b : Text) → written b (at + length a) (written a at buffer) ≡ written (a ++ b) at buffer
+  unfolding written
+  written-then a b = let seam = front a in rw (take-at, drop-past, length-append, ← add-assoc) (simp append-assoc)
+    where
+      drop-past : drop (at + length a + length b) (take at buffer ++ a ++ drop (at + length a) buffer) ≡ drop (at + length a + length b) buffer
+      drop-past =
+          ap (λ (n : ℕ). drop (n + length b) (take at buffer ++ a ++ drop (at + length a) buffer)) (sym (front a))
+          ∙ drop-append-add (take at buffer ++ a) (drop (at + length a) buffer) (length b)
+          ∙ drop-drop (length b) (at + length a) buffer
+
+-- A text of no byte is put already.
+pub puts-nothing : (buffer : List ℕ) (at : ℕ) → Puts [] at buffer buffer at
+unfolding written
+puts-nothing buffer at = record { end = sym (add-zero at); bytes = paste-zero buffer at [] }
+
+-- A text is put, and another one where it ends.
+pub puts-then : {a b : Text} {at middle end : ℕ} {old half new : List ℕ} → at ≤ length old
+    → Puts a at old half middle → Puts b middle half new end → Puts (a ++ b) at old new end
+puts-then {a} {b} {at} {old = old} h first second = record {
+  end = rw length-append (omega (arith, first .end, second .end));
+  bytes = second .bytes ∙ rw (first .end, first .bytes) (written-then old at h a b);
+}
+
+-- A line where there is room, and where there is none.
+pub prints : {text : Text} {at end : ℕ} {old new : List ℕ} → leb (at + lineRoom) (length old) ≡ true
+    → Puts text at old new end × (end ≤ at + lineRoom) → Prints text at old new (Length end)
+prints room put = record {
+  answered = rw room (ap Length (put .0 .end));
+  bytes = rw room (put .0 .bytes);
+  short = λ fits. omega (arith, put .0 .end);
+}
+
+pub prints-nothing : (text : Text) (at : ℕ) (buffer : List ℕ) → leb (at + lineRoom) (length buffer) ≡ false
+    → Prints text at buffer buffer NoRoom
+prints-nothing text at buffer none = record {
+  answered = rw none;
+  bytes = rw none;
+  short = λ fits. let z : false ≡ true = sym none ∙ fits in let no : _≡_ {A = ℕ} 0 1 = cc in omega arith;
+}

@@ -1,0 +1,127 @@
+-- `page::places::put_seats` meets its contract. The invariant of its loop: the lines of the seats passed are put, each in its
+-- room, and the place at hand is that of the seat before. Assumes nothing.
+use mathlib.Core.Path.{_≡_, refl, _∙_}
+use Prim.Native.Nat.{_+_, _*_, _-_, _≤_, _<_}
+use native.Mathlib.Numerals.{add-one}
+use native.Mathlib.Omega.{arith}
+use lib.ListN.{length}
+use Rattle.knowledge.specs.Farm.{seat}
+use Rattle.construction.specs.Counts.{farmFor}
+use Rattle.lines.specs.Printing.{Puts}
+use Rattle.lines.proofs.PrintLaws.{puts-nothing, puts-then}
+use Rattle.page.specs.Page.{linesAt}
+use Rattle.page.specs.Printing.{countFrom, placeOf}
+use Rattle.page.proofs.LineLaws.{line-at}
+use Rattle.page.proofs.places.put_seats.Statement.{statement}
+use Rattle.page.proofs.places.put_seats.Tie as tie
+
+abbrev Inv-loop : tie.InvT-loop
+Inv-loop losses editors times sizes losers time out₀ at seats known place₀ before₀ end₀ seat₀ out place before end p =
+    (p ≤ seats)
+    × (end ≤ at + 96 * p)
+    × (length out ≡ length out₀)
+    × Puts (linesAt (farmFor sizes losses) (countFrom editors times) time p) at out₀ out end
+    × (before < seats)
+    × (place ≡ placeOf sizes losses editors times (seat before) time)
+
+abbrev μ-loop : tie.MeasureT-loop
+μ-loop losses editors times sizes losers time out₀ at seats known place₀ before₀ end₀ seat₀ out place before end p = seats - p
+
+known-sets-requires : tie.Need-known-sets-requires Inv-loop μ-loop
+known-sets-requires c κs =
+    let start = c .before .before .before .before in
+    let most = start .pre .0 .accepted .rounds in
+    let early = start .pre .1 in
+    (start .pre .0 .accepted .seats, omega arith)
+
+ask-place-requires : tie.Need-ask-place-requires Inv-loop μ-loop
+ask-place-requires c κs =
+    let ready = c .before .before .before .before .before .pre .0 in
+    (ready .accepted, ready .parallel, ready .few)
+
+loop-holds : tie.Need-loop-holds Inv-loop μ-loop
+unfolding linesAt
+loop-holds c =
+    let start = c .before .before .before .before .before .before in
+    let a = start .args in
+    let some = start .pre .0 .accepted .bound in
+    (omega arith, omega arith, refl, puts-nothing (a .out .now) (a .at), omega arith, c .ask-place .ensures)
+
+next-place-requires : tie.Need-next-place-requires Inv-loop μ-loop
+next-place-requires c κs =
+    let start = c .before .before .before .before .before .before .before .before in
+    let ready = start .pre .0 in
+    let inv = c .before .loop .inv in
+    ((ready .accepted, ready .parallel, ready .few), ((inv .4, c .loop-test .taken, start .pre .1), (c .before .before .before .known-sets .ensures, inv .5)))
+
+put-line-requires : tie.Need-put-line-requires Inv-loop μ-loop
+put-line-requires c κs =
+    let inside = c .before .before in
+    let start = inside .before .before .before .before .before .before .before .before in
+    let most = start .pre .0 .accepted .seats in
+    let room = start .pre .2 in
+    let inv = inside .before .loop .inv in
+    let end = inv .1 in
+    let same = inv .2 in
+    let less = inside .loop-test .taken in
+    omega arith
+
+add-seat : tie.Need-add-seat Inv-loop μ-loop
+add-seat c =
+    let inside = c .before .before .before .before .before in
+    let start = inside .before .before .before .before .before .before .before .before in
+    let most = start .pre .0 .accepted .seats in
+    let less = inside .loop-test .taken in
+    omega arith
+
+loop-less : tie.Need-loop-less Inv-loop μ-loop
+loop-less c = omega arith
+
+loop-again : tie.Need-loop-again Inv-loop μ-loop
+unfolding linesAt
+loop-again c =
+    let call = c .before .before .put-line in
+    let next = c .before .before .before .before .next-place in
+    let inside = c .before .before .before .before .before in
+    let inv = inside .before .loop .inv in
+    let start = inside .before .before .before .before .before .before .before .before in
+    let a = start .args in
+    let less = inside .loop-test .taken in
+    let farm = farmFor (a .sizes) (a .losses .now) in
+    let line = line-at farm (a .editors .now) (a .times .now) (a .losers) (a .time) (seat (inside .before .loop .seat)) (next .result) (start .pre .0 .all) less (start .pre .1) (next .ensures) in
+    let room = start .pre .2 in
+    let end = inv .1 in
+    let longer = call .ensures .1 in
+    let put = puts-then (omega arith) (inv .3) (rw line at (call .ensures .0)) in
+    (omega arith, omega arith, call .kept .1 .1 .1 .1 .1 .0 ∙ inv .2, rw add-one put, less, next .ensures)
+
+same-length : tie.Need-same-length Inv-loop μ-loop
+same-length c = c .before .loop .inv .2
+
+returns : tie.Need-returns Inv-loop μ-loop
+returns c =
+    let start = c .before .before .before .before .before .before .before .before in
+    let most = start .pre .0 .accepted .seats in
+    let inv = c .before .loop .inv in
+    let least = inv .0 in
+    let end = inv .1 in
+    let past = c .loop-test .left in
+    let all : c .before .loop .seat ≡ start .args .sizes .seats = omega arith in
+    (rw all at (inv .3), omega arith)
+
+pub put-seats-spec : {M : Type 1} → statement M
+put-seats-spec =
+    tie.close
+    (tie.spec
+    Inv-loop
+    μ-loop
+    known-sets-requires
+    ask-place-requires
+    loop-holds
+    next-place-requires
+    put-line-requires
+    add-seat
+    loop-less
+    loop-again
+    same-length
+    returns)

@@ -1,0 +1,167 @@
+// The lines of an accepted record: of a place, of all seats at a time, of all times. Each is put where
+// the page ends so far, and the answer is where it ends then.
+use construction::known::KnownSets;
+use construction::known::known_sets;
+use construction::sizes::Sizes;
+use farm::places::Seat;
+use farm::places::Time;
+use farm::sets::holds;
+use lines::printing::PlaceLine;
+use lines::printing::Printed;
+use lines::printing::over_line;
+use lines::printing::place_line;
+use questions::answers::Given;
+use questions::answers::Place;
+use questions::places::ask_place;
+ghost use mathlib.Core.Path.{_≡_};
+ghost use Prim.Native.Nat.{suc, _+_, _≤_, _<_};
+ghost use lib.ListN.{length};
+ghost use Rattle.farm.specs.Limits.{limits};
+ghost use Rattle.farm.specs.Sets.{bit};
+ghost use Rattle.construction.specs.Counts.{counts, farmFor, knownSets};
+ghost use Rattle.questions.specs.Accepted.{Accepted};
+ghost use Rattle.lines.specs.Printing.{Puts, lineRoom};
+ghost use Rattle.page.specs.Page.{linesAt, linesOf};
+ghost use Rattle.page.specs.Printing.{Ready, countFrom, endIn, lineFrom, lineIn, placeOf, timeRoom, timesRoom};
+
+// Where a line ends that was printed; it is asked of no other.
+pub fn end_of(printed: Printed) -> usize
+    ensures { λ r. ⌜ r ≡ endIn printed ⌝ }
+{
+    match printed {
+        Printed::Length(end) => end,
+        Printed::NoRoom => 0,
+    }
+}
+
+// The numbers of the line of a place that is not refused.
+fn line_of(place: Place, seats: u8, time: Time, seat: Seat, loser: bool) -> PlaceLine
+    ensures { λ r. ⌜ r ≡ lineFrom place seats time seat loser ⌝ }
+{
+    let summary = place.summary;
+    let core = place.latest;
+    PlaceLine {
+        time,
+        seat,
+        loser,
+        critical: summary.critical,
+        steps: summary.steps,
+        seats,
+        core,
+        count: place.count,
+    }
+}
+
+// The line of a seat at a time, from what was asked of its place.
+fn put_line(
+    place: Place,
+    seats: u8,
+    losers: u16,
+    time: Time,
+    seat: Seat,
+    out: &mut [u8],
+    at: usize,
+) -> usize
+    requires { ⌜ at + lineRoom ≤ length (now out) ⌝ }
+    ensures { λ r.
+        ⌜ Puts (lineIn place seats time seat (bit losers (seat .0))) at (now (out .entry)) (now (out .exit)) r
+        × (r ≤ at + lineRoom) ⌝ }
+{
+    let loser = holds(losers, seat);
+    let given = place.given;
+    if let Given::Refused(_) = given {
+        return end_of(over_line(time, seat, loser, out, at));
+    }
+    let line = line_of(place, seats, time, seat, loser);
+    end_of(place_line(line, out, at))
+}
+
+// What is asked of a seat's place, where that of the seat before is known. At one time it depends on
+// the known set alone, so that it is worked out again only where the two known sets differ.
+fn next_place<'a>(
+    losses: &'a [u16],
+    editors: &'a [u8],
+    times: &'a [u16],
+    sizes: Sizes,
+    known: KnownSets,
+    place: Place,
+    before: Seat,
+    seat: Seat,
+    time: Time,
+) -> Place
+    requires { ⌜ Accepted sizes × (length (now times) ≡ length (now editors)) × (length (now editors) ≤ limits .mostEdits) ⌝ }
+    requires { ⌜ (before .0 < sizes .seats) × (seat .0 < sizes .seats) × (time .0 ≤ sizes .rounds) ⌝ }
+    requires { ⌜ known .of ≡ counts (sizes .seats) (knownSets (farmFor sizes (now losses)) time) ⌝ }
+    requires { ⌜ place ≡ placeOf sizes (now losses) (now editors) (now times) before time ⌝ }
+    ensures { λ r. ⌜ r ≡ placeOf sizes (now (losses .entry)) (now (editors .entry)) (now (times .entry)) seat time ⌝ }
+{
+    let sets = known.of;
+    let set_before = sets[before.0 as usize];
+    let set = sets[seat.0 as usize];
+    if set_before == set {
+        return place;
+    }
+    ask_place(losses, editors, times, sizes, seat, time)
+}
+
+// The lines of a time, seat by seat.
+fn put_seats<'a>(
+    losses: &'a [u16],
+    editors: &'a [u8],
+    times: &'a [u16],
+    sizes: Sizes,
+    losers: u16,
+    time: Time,
+    out: &mut [u8],
+    at: usize,
+) -> usize
+    requires { ⌜ Ready sizes (now losses) (now editors) (now times) losers × (time .0 ≤ sizes .rounds) × (at + timeRoom ≤ length (now out)) ⌝ }
+    ensures { λ r.
+        ⌜ Puts (linesAt (farmFor sizes (now (losses .entry))) (countFrom (now (editors .entry)) (now (times .entry))) time (sizes .seats)) at (now (out .entry)) (now (out .exit)) r
+        × (r ≤ at + timeRoom) ⌝ }
+{
+    let seats = sizes.seats;
+    let known = known_sets(losses, sizes, time);
+    let mut place = ask_place(losses, editors, times, sizes, Seat(0), time);
+    let mut before: u8 = 0;
+    let mut end = at;
+    for seat in 0..seats {
+        place = next_place(
+            losses,
+            editors,
+            times,
+            sizes,
+            known,
+            place,
+            Seat(before),
+            Seat(seat),
+            time,
+        );
+        end = put_line(place, seats, losers, time, Seat(seat), out, end);
+        before = seat;
+    }
+    end
+}
+
+// The lines of all times, from 0 to the last.
+pub fn put_times<'a>(
+    losses: &'a [u16],
+    editors: &'a [u8],
+    times: &'a [u16],
+    sizes: Sizes,
+    losers: u16,
+    out: &mut [u8],
+    at: usize,
+) -> usize
+    requires { ⌜ Ready sizes (now losses) (now editors) (now times) losers × (at + timesRoom ≤ length (now out)) ⌝ }
+    ensures { λ r.
+        ⌜ Puts (linesOf (farmFor sizes (now (losses .entry))) (countFrom (now (editors .entry)) (now (times .entry))) (suc (sizes .rounds))) at (now (out .entry)) (now (out .exit)) r
+        × (r ≤ at + timesRoom) ⌝ }
+{
+    let times_in_all = sizes.rounds + 1;
+    let mut end = at;
+    for time in 0..times_in_all {
+        end = put_seats(losses, editors, times, sizes, losers, Time(time), out, end);
+    }
+    end
+}
