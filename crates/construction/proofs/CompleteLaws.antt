@@ -2,30 +2,12 @@
 -- Assumes nothing.
 use mathlib.Core.Path.{sym, _∙_}
 use Rattle.farm.proofs.Complete.{Complete, by-facts}
-use Rattle.construction.proofs.views.views_at as views-at
-use Rattle.construction.proofs.views.seat_view as seat-view
-use Rattle.construction.proofs.views.view_of as view-of
-use Rattle.construction.proofs.views.view_of_set as view-of-set
 use Rattle.construction.proofs.known.known_in as known-in
 use Rattle.construction.proofs.known.known_of as known-of
 use Rattle.construction.proofs.known.known_sets as known-sets
 use Rattle.construction.proofs.losers.losers_by as losers-by
 use Rattle.construction.proofs.losers.is_loser as is-loser
 use Rattle.construction.proofs.settled.settle as settle
-
--- ════ Views ════
-
-pub views-at-complete : Complete views-at.ended (λ M. views-at.clauses {M = M})
-views-at-complete M 𝓤 H A mem run κs a g r s v w = by-facts M 𝓤 _ _ _ (λ p q. (λ i. record { of = (p ∙ sym q) i }, cc))
-
-pub seat-view-complete : Complete seat-view.ended (λ M. seat-view.clauses {M = M})
-seat-view-complete M 𝓤 H A mem run κs a g r s v w = by-facts M 𝓤 _ _ _ (λ p q. (λ i. record { of = (p ∙ sym q) i }, cc))
-
-pub view-of-complete : Complete view-of.ended (λ M. view-of.clauses {M = M})
-view-of-complete M 𝓤 H A mem run κs a g r s v w = by-facts M 𝓤 _ _ _ (λ p q. (λ i. record { of = (p ∙ sym q) i }, cc))
-
-pub view-of-set-complete : Complete view-of-set.ended (λ M. view-of-set.clauses {M = M})
-view-of-set-complete M 𝓤 H A mem run κs a g r s v w = by-facts M 𝓤 _ _ _ (λ p q. (λ i. record { of = (p ∙ sym q) i }, cc))
 
 -- ════ Known sets and losers ════
 

@@ -14,9 +14,10 @@ use Rattle.farm.proofs.SetLaws.{any-intro, any-none, collect-equal, bit-collect
 use Rattle.knowledge.specs.Farm.{Farm, lostIn, farmOf, losesIn, losesBy, losersBy, time}
 use Rattle.knowledge.specs.Views.{View, view}
 use Rattle.knowledge.specs.Known.{missedAt, missed, knownIn}
-use Rattle.construction.specs.Counts.{room, counts, held, viewIn, lostBefore, allCounts, knownSets}
+use Rattle.viewing.specs.Counts.{room, counts, held, viewIn, allCounts}
+use Rattle.construction.specs.KnownSets.{lostBefore, knownSets}
 use Rattle.construction.proofs.SetSteps.{any-more}
-use Rattle.construction.proofs.ViewSteps.{view-in-all, counts-equal, held-counts}
+use Rattle.viewing.proofs.ViewSteps.{view-in-all, counts-equal, held-counts}
 
 -- ════ Looking for one that passes ════
 

@@ -1,6 +1,4 @@
 pub mod SetSteps
-pub mod CountLaws
-pub mod ViewSteps
 pub mod KnownSteps
 pub mod SettleSteps
 pub mod CompleteLaws

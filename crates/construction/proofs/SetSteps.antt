@@ -1,63 +1,35 @@
 -- One turn of a loop over the seats: each definition of crates/farm/specs/Sets.antt at q + 1, from itself at q.
 -- Assumes nothing.
-use mathlib.Core.Path.{_≡_, refl, _∙_}
+use mathlib.Core.Path.{_≡_, refl, sym, _∙_, ap}
 use mathlib.Core.Bool.{Bool, true, false, cond, not}
-use Prim.Native.Nat.{ℕ, suc, _+_, _*_, _%_, _^_, _≤_, _<_}
-use native.Mathlib.Nat.{pow-le-pow-right, mod-eq-of-lt, mul-le-mul}
+use Prim.Native.Nat.{ℕ, _+_, _^_, _<_}
 use native.Mathlib.Numerals.{add-one}
 use native.Mathlib.Omega.{arith}
-use lib.Dec.{lit<}
-use Rattle.farm.specs.Sets.{Seats, bit, any, collect, size, outside}
-use Rattle.farm.proofs.SetLaws.{collect-below}
+use Rattle.farm.specs.Sets.{Seats, bit, any, size, outside}
+use Rattle.viewing.proofs.SetSteps.{collect-turn, collect-fits}
 
--- ════ Sets ════
-
--- A seat's own place is below the room of a set of 16 bits.
-pub place-fits : (q k : ℕ) → q ≤ k → 2 ^ q ≤ 2 ^ k
-place-fits q k h = pow-le-pow-right {n = 2} (lit< tt) h
-
--- A place shifted in 16 bits is not cut off.
-pub place-whole : (q : ℕ) → q < 16 → 1 * 2 ^ q % 2 ^ 16 ≡ 2 ^ q
-place-whole q h =
-    let room : 2 ^ suc q ≤ 2 ^ 16 = place-fits (suc q) 16 h in
-    let one : 1 * 2 ^ q ≡ 2 ^ q = omega arith in
-    rw one (mod-eq-of-lt (omega arith))
-
-pub collect-more : (q : ℕ) (test : ℕ → Bool) (b : Bool) → b ≡ test q → collect q test + cond b (2 ^ q) 0 ≡ collect (q + 1) test
-unfolding collect
-collect-more q test b e = rw (add-one, e) refl
-
--- A turn of a loop that puts a set together.
-pub collect-turn : (q : ℕ) (test : ℕ → Bool) (set : Seats) (b : Bool) (result : Seats) → set ≡ collect q test → b ≡ test q
-    → result ≡ set + cond b (2 ^ q) 0 → result ≡ collect (q + 1) test
-collect-turn q test set b result e f r = r ∙ (rw e (collect-more q test b f))
-
-pub collect-fits : (q : ℕ) (test : ℕ → Bool) (set : Seats) → set ≡ collect q test → set < 2 ^ q
-collect-fits q test set e = rw e (collect-below q test)
-
-pub outside-below : (q : ℕ) (set : Seats) → outside q set < 2 ^ q
+pub outside-fits : (q : ℕ) (set out : Seats) → out ≡ outside q set → out < 2 ^ q
 unfolding outside
-outside-below q set = collect-below q (λ j. not (bit set j))
+outside-fits q set out e = collect-fits q (λ j. not (bit set j)) out e
 
-pub outside-more : (q : ℕ) (set : Seats) → outside q set + cond (not (bit set q)) (2 ^ q) 0 ≡ outside (q + 1) set
+pub outside-turn : (q : ℕ) (set out : Seats) (b : Bool) (result : Seats) → out ≡ outside q set → b ≡ bit set q
+    → result ≡ out + cond (not b) (2 ^ q) 0 → result ≡ outside (q + 1) set
 unfolding outside
-outside-more q set = collect-more q (λ j. not (bit set j)) (not (bit set q)) refl
+outside-turn q set out b result e f r = collect-turn q (λ j. not (bit set j)) out (not b) result e (ap not f) r
 
 pub size-more : (q : ℕ) (set : Seats) → size q set + cond (bit set q) 1 0 ≡ size (q + 1) set
 unfolding size
 size-more q set = rw (add-one, size) refl
 
-pub size-with : (q : ℕ) (set : Seats) → bit set q ≡ true → size q set + 1 ≡ size (q + 1) set
-size-with q set e = rw e at (size-more q set)
+-- A turn at seat q, by whether the set has it.
+pub size-with : (q : ℕ) (set : Seats) (members : ℕ) (b : Bool) → members ≡ size q set → b ≡ bit set q → b ≡ true
+    → members + 1 ≡ size (q + 1) set
+size-with q set members b e f t = ap (λ (m : ℕ). m + 1) e ∙ (rw (sym f ∙ t) at (size-more q set))
 
-pub size-without : (q : ℕ) (set : Seats) → bit set q ≡ false → size q set ≡ size (q + 1) set
-size-without q set e = let more = rw e at (size-more q set) in omega arith
+pub size-without : (q : ℕ) (set : Seats) (members : ℕ) (b : Bool) → members ≡ size q set → b ≡ bit set q → b ≡ false
+    → members ≡ size (q + 1) set
+size-without q set members b e f t = let more = rw (sym f ∙ t) at (size-more q set) in omega arith
 
 pub any-more : (q : ℕ) (test : ℕ → Bool) → any q test ≡ false → test q ≡ false → any (q + 1) test ≡ false
 unfolding any
 any-more q test e f = rw (add-one, any, e) f
-
--- ════ Places in a table ════
-
-pub product-below : (a b x y : ℕ) → a ≤ x → b ≤ y → a * b ≤ x * y
-product-below a b x y h g = mul-le-mul h g

@@ -22,10 +22,10 @@ use Rattle.farm.proofs.Cases.{less-or-not}
 use Rattle.knowledge.specs.Farm.{Farm, IsSeat}
 use Rattle.knowledge.specs.Views.{viewsOf}
 use Rattle.knowledge.specs.Settled.{criticalTime, coreView, next, reached, settleFrom, outcomeOf}
-use Rattle.construction.specs.Counts.{room, counts, held}
+use Rattle.viewing.specs.Counts.{room, counts, held}
 use Rattle.construction.specs.Answers.{Shrinks, settledFor, answerFor}
 use Rattle.knowledge.specs.Known.{knownIn, knownOf}
-use Rattle.construction.specs.declared.views.Counts.{Counts}
+use Rattle.viewing.specs.declared.views.Counts.{Counts}
 use Rattle.construction.specs.declared.settled.Settled.{Settled}
 use Rattle.construction.specs.declared.settled.Answer.{Answer}
 use Rattle.construction.specs.declared.settled.Ruling.{Ruling}
@@ -33,7 +33,7 @@ use Rattle.construction.specs.declared.settled.Ruling.the-variants.{Answ
 use Rattle.construction.proofs.KnownSteps.{known-held}
 use Rattle.knowledge.proofs.ChainLaws.{stage-start, settle-stops, settle-goes-on, settle-over, settle-within}
 use Rattle.knowledge.proofs.ChainTheory.{Falling, change-falls, next-falls, stage-falls}
-use Rattle.construction.proofs.CountLaws.{filled-none, filled-skip}
+use Rattle.viewing.proofs.CountLaws.{filled-none, filled-skip}
 
 -- ════ A time that lies back ════
 

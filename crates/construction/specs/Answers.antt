@@ -9,8 +9,8 @@ use Rattle.knowledge.specs.Farm.{Farm}
 use Rattle.knowledge.specs.Views.{View}
 use Rattle.knowledge.specs.Settled as rules
 use Rattle.knowledge.specs.Settled.{Outcome, overBound, settled, next}
-use Rattle.construction.specs.Counts.{counts}
-use Rattle.construction.specs.declared.views.Counts.{Counts}
+use Rattle.viewing.specs.Counts.{counts}
+use Rattle.viewing.specs.declared.views.Counts.{Counts}
 use Rattle.construction.specs.declared.settled.Settled.{Settled}
 use Rattle.construction.specs.declared.settled.Answer.{Answer}
 use Rattle.construction.specs.declared.settled.Ruling.the-variants.{Answered, Refused}

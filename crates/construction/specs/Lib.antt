@@ -1,3 +1,3 @@
--- How the code holds views, sets and answers, beside the rules of knowledge.
-pub mod Counts
+-- How the code finds known sets and gives answers, beside the rules of knowledge.
+pub mod KnownSets
 pub mod Answers

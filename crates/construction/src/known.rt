@@ -1,19 +1,20 @@
 // Rule 2 of document 01: which seats a view shows to have lost a send.
-use crate::losses::was_lost;
-use crate::sets::with_seat;
-use crate::sizes::Sizes;
-use crate::views::ROOM;
-use crate::views::TABLE;
-use crate::views::seat_view;
-use crate::views::view_of;
-use crate::views::views_at;
 use farm::places::Seat;
 use farm::places::Time;
+use viewing::losses::was_lost;
+use viewing::sets::with_seat;
+use viewing::sizes::Sizes;
+use viewing::views::ROOM;
+use viewing::views::TABLE;
+use viewing::views::seat_view;
+use viewing::views::view_of;
+use viewing::views::views_at;
 ghost use mathlib.Core.Path.{_≡_};
 ghost use Prim.Native.Nat.{_≤_, _<_};
 ghost use Rattle.farm.specs.Limits.{limits};
 ghost use Rattle.knowledge.specs.Known.{missed, knownIn, knownOf};
-ghost use Rattle.construction.specs.Counts.{counts, held, viewIn, lostBefore, farmFor, knownSets};
+ghost use Rattle.viewing.specs.Counts.{counts, held, viewIn, farmFor};
+ghost use Rattle.construction.specs.KnownSets.{lostBefore, knownSets};
 
 // The known sets of all seats' views at one time, 0 for every seat from n on.
 pub struct KnownSets {

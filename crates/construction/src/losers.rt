@@ -1,15 +1,15 @@
 // Losers and clean seats: who lost a send in any of the rounds up to a time, or of the whole record.
-use crate::losses::was_lost;
-use crate::sets::with_seat;
-use crate::sizes::Sizes;
 use farm::places::Seat;
 use farm::places::Time;
+use viewing::losses::was_lost;
+use viewing::sets::with_seat;
+use viewing::sizes::Sizes;
 ghost use mathlib.Core.Path.{_≡_};
 ghost use Prim.Native.Nat.{suc, _≤_, _<_};
 ghost use Rattle.farm.specs.Limits.{limits};
 ghost use Rattle.farm.specs.Sets.{bit};
 ghost use Rattle.knowledge.specs.Farm.{losesIn, losesBy, losersBy, losers};
-ghost use Rattle.construction.specs.Counts.{farmFor};
+ghost use Rattle.viewing.specs.Counts.{farmFor};
 
 // Whether a send of z was lost in the round that begins at the time.
 fn loses_in(losses: &[u16], sizes: Sizes, begun: Time, z: Seat) -> bool

@@ -1,20 +1,11 @@
-// Sets of seats, put together seat by seat from the lowest up.
+// Sets of seats: the seats outside one, and how many one has.
 use farm::places::Seat;
 use farm::sets::holds;
+use viewing::sets::with_seat;
 ghost use mathlib.Core.Path.{_≡_};
-ghost use mathlib.Core.Bool.{cond};
-ghost use Prim.Native.Nat.{_+_, _^_, _<_, _≤_};
+ghost use Prim.Native.Nat.{_≤_};
 ghost use Rattle.farm.specs.Limits.{limits};
 ghost use Rattle.farm.specs.Sets.{outside, size};
-
-// A set of seats below one, with that seat or without it.
-pub fn with_seat(set: u16, seat: Seat, member: bool) -> u16
-    requires { ⌜ (seat .0 < limits .mostSeats) × (set < 2 ^ (seat .0)) ⌝ }
-    ensures { λ r. ⌜ r ≡ set + cond member (2 ^ (seat .0)) 0 ⌝ }
-{
-    let s = seat.0;
-    if member { set + (1u16 << s) } else { set }
-}
 
 // The seats that are not in the set.
 pub fn seats_outside(set: u16, seats: u8) -> u16

@@ -11,7 +11,7 @@ use crate::used::standing_used;
 use crate::used::view_into_used;
 use crate::used::view_used;
 use crate::used::write_used;
-use construction::sizes::Sizes;
+use viewing::sizes::Sizes;
 use farm::places::Seat;
 use farm::places::Time;
 use farm::refusals::Refusal;

@@ -1,5 +1,5 @@
 // Questions on the used part of an accepted table's arrays: the part is cut out, and the question of the crate beneath asked of it.
-use construction::sizes::Sizes;
+use viewing::sizes::Sizes;
 use farm::places::Seat;
 use farm::places::Time;
 use questions::answers::Count;
@@ -26,7 +26,7 @@ ghost use Rattle.farm.specs.Limits.{limits};
 ghost use Rattle.record.specs.Writing.{listsOf};
 ghost use Rattle.record.specs.Answers.{writtenIn};
 ghost use Rattle.record.specs.Writing.{writtenTo, bufferAfter};
-ghost use Rattle.construction.specs.Counts.{farmFor};
+ghost use Rattle.viewing.specs.Counts.{farmFor};
 ghost use Rattle.questions.specs.Accepted.{Accepted, coreIn, marksOn, countOn};
 ghost use Rattle.questions.specs.Question.{byValue, buffer, viewIn, knownIn, settledIn, loserIn};
 ghost use Rattle.questions.specs.Answers.{knownAnswer, countAnswer, settledAnswer, standingAnswer, givenAnswer, into, timesAnswer};

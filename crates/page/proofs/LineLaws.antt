@@ -15,8 +15,9 @@ use Rattle.knowledge.specs.Farm.{Farm, losers}
 use Rattle.knowledge.specs.Views.{latestTimes}
 use Rattle.knowledge.specs.Known.{knownOf}
 use Rattle.knowledge.specs.Settled.{Settled, Outcome, overBound, settled, settle, outcomeOf}
-use Rattle.construction.specs.Counts.{room, counts, knownSets}
-use Rattle.construction.proofs.ViewSteps.{counts-at}
+use Rattle.viewing.specs.Counts.{room, counts}
+use Rattle.construction.specs.KnownSets.{knownSets}
+use Rattle.viewing.proofs.ViewSteps.{counts-at}
 use Rattle.questions.specs.Answers.{laid, noTimes, placeAnswer}
 use Rattle.questions.specs.Question.{byValue, isPlace, ofOutcome, settledIn}
 use Rattle.questions.specs.declared.answers.Given.{Given}

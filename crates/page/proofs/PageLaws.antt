@@ -10,7 +10,7 @@ use lib.Dec.{leb}
 use borrow.Author.Tests.{le-leb, lt-leb, leb-true}
 use Rattle.farm.specs.Refusals.{numberOf}
 use Rattle.farm.specs.declared.refusals.Refusal.{Refusal}
-use Rattle.construction.specs.Counts.{farmFor}
+use Rattle.viewing.specs.Counts.{farmFor}
 use Rattle.record.specs.declared.header.Header.{Header}
 use Rattle.record.specs.declared.answers.Checked.{Checked}
 use Rattle.record.specs.declared.answers.Checked.the-variants.{Good, Refused}

@@ -10,8 +10,8 @@ use Rattle.farm.specs.Sets.{Seats}
 use Rattle.farm.specs.declared.places.Seat.{Seat}
 use Rattle.farm.specs.declared.places.Time.{Time}
 use Rattle.knowledge.specs.Farm.{losers}
-use Rattle.construction.specs.Counts.{farmFor}
-use Rattle.construction.specs.declared.sizes.Sizes.{Sizes}
+use Rattle.viewing.specs.Counts.{farmFor}
+use Rattle.viewing.specs.declared.sizes.Sizes.{Sizes}
 use Rattle.questions.specs.Accepted.{Accepted}
 use Rattle.questions.specs.Answers.{placeAnswer}
 use Rattle.questions.specs.Marks.{countIn}

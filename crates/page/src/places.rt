@@ -2,7 +2,7 @@
 // the page ends so far, and the answer is where it ends then.
 use construction::known::KnownSets;
 use construction::known::known_sets;
-use construction::sizes::Sizes;
+use viewing::sizes::Sizes;
 use farm::places::Seat;
 use farm::places::Time;
 use farm::sets::holds;
@@ -18,7 +18,8 @@ ghost use Prim.Native.Nat.{suc, _+_, _≤_, _<_};
 ghost use lib.ListN.{length};
 ghost use Rattle.farm.specs.Limits.{limits};
 ghost use Rattle.farm.specs.Sets.{bit};
-ghost use Rattle.construction.specs.Counts.{counts, farmFor, knownSets};
+ghost use Rattle.viewing.specs.Counts.{counts, farmFor};
+ghost use Rattle.construction.specs.KnownSets.{knownSets};
 ghost use Rattle.questions.specs.Accepted.{Accepted};
 ghost use Rattle.lines.specs.Printing.{Puts, lineRoom};
 ghost use Rattle.page.specs.Page.{linesAt, linesOf};

@@ -3,7 +3,7 @@
 use crate::places::end_of;
 use crate::places::put_times;
 use construction::losers::losers_by;
-use construction::sizes::Sizes;
+use viewing::sizes::Sizes;
 use farm::places::Time;
 use farm::refusals::number;
 use lines::printing::HeaderLine;
@@ -18,7 +18,7 @@ ghost use mathlib.Core.List.{_++_};
 ghost use Prim.Native.Nat.{suc, _*_, _≤_};
 ghost use lib.ListN.{length};
 ghost use Rattle.farm.specs.Limits.{limits};
-ghost use Rattle.construction.specs.Counts.{farmFor};
+ghost use Rattle.viewing.specs.Counts.{farmFor};
 ghost use Rattle.record.specs.Document.{readingOf};
 ghost use Rattle.questions.specs.Accepted.{Accepted};
 ghost use Rattle.questions.specs.Reading.{sizesOf};

@@ -21,7 +21,7 @@ use Rattle.knowledge.proofs.OutcomeTheory.{outcome-exists, answer-fixed}
 use mir.Syntax.{w16}
 use mir.Val.{SFits, toZ, ofZ}
 use mir.ValLaws.{toZ-ofZ}
-use Rattle.construction.specs.Counts.{counts}
+use Rattle.viewing.specs.Counts.{counts}
 use Rattle.construction.specs.Answers.{answerFor, settledFor}
 use Rattle.construction.specs.declared.settled.Settled as construction
 use Rattle.construction.specs.declared.settled.Answer.{Answer}

@@ -19,10 +19,10 @@ use Rattle.farm.proofs.Cases.{less-or-not}
 use Rattle.knowledge.specs.Farm.{Farm, IsSeat}
 use Rattle.knowledge.specs.Views.{View}
 use Rattle.knowledge.specs.Settled.{Settled, hasPlace}
-use Rattle.construction.specs.Counts.{counts, held, below, filled}
+use Rattle.viewing.specs.Counts.{counts, held, below, filled}
 use Rattle.construction.specs.declared.settled.Answer.{Answer}
-use Rattle.construction.proofs.CountLaws.{getD-filled, below-out, getD-past}
-use Rattle.construction.proofs.ViewSteps.{held-counts}
+use Rattle.viewing.proofs.CountLaws.{getD-filled, below-out, getD-past}
+use Rattle.viewing.proofs.ViewSteps.{held-counts}
 use Rattle.record.specs.declared.edits.Edit.{Edit}
 use Rattle.record.specs.Tables.{seatsOf, timesOf}
 use Rattle.questions.specs.Marks.{markAt, marksIn, countIn}

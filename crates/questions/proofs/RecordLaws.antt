@@ -13,8 +13,8 @@ use Rattle.farm.specs.declared.places.Seat.{Seat}
 use Rattle.farm.specs.declared.places.Time.{Time}
 use Rattle.farm.specs.declared.refusals.Refusal.{Refusal}
 use Rattle.knowledge.specs.Settled.{Settled}
-use Rattle.construction.specs.Counts.{farmFor}
-use Rattle.construction.specs.declared.sizes.Sizes.{Sizes}
+use Rattle.viewing.specs.Counts.{farmFor}
+use Rattle.viewing.specs.declared.sizes.Sizes.{Sizes}
 use Rattle.record.specs.declared.header.Header.{Header}
 use Rattle.record.specs.declared.answers.Judged.{Judged}
 use Rattle.record.specs.declared.answers.Judged.the-variants as judged-as

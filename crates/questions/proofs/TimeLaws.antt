@@ -14,9 +14,9 @@ use mir.Val.{SFits, toZ, ofZ}
 use mir.ValLaws.{toZ-pos, toZ-ofZ}
 use Rattle.farm.proofs.Cases.{less-or-not}
 use Rattle.knowledge.specs.Views.{View, latest, latestTimes}
-use Rattle.construction.specs.Counts.{counts, held, below, filled}
-use Rattle.construction.proofs.CountLaws.{getD-filled, below-in, below-out, length-filled, getD-past}
-use Rattle.construction.proofs.ViewSteps.{held-counts}
+use Rattle.viewing.specs.Counts.{counts, held, below, filled}
+use Rattle.viewing.proofs.CountLaws.{getD-filled, below-in, below-out, length-filled, getD-past}
+use Rattle.viewing.proofs.ViewSteps.{held-counts}
 use Rattle.construction.proofs.SettleSteps.{minus-at}
 
 -- ════ One latest time ════

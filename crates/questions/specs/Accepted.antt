@@ -8,7 +8,7 @@ use Rattle.farm.specs.declared.places.Seat.{Seat}
 use Rattle.farm.specs.declared.places.Time.{Time}
 use Rattle.knowledge.specs.Farm.{Farm}
 use Rattle.knowledge.specs.Views.{latestTimes}
-use Rattle.construction.specs.declared.sizes.Sizes.{Sizes}
+use Rattle.viewing.specs.declared.sizes.Sizes.{Sizes}
 use Rattle.questions.specs.Question.{Asked, Lent, byValue, looking, settledIn}
 use Rattle.questions.specs.Marks.{marksIn, countIn}
 

@@ -5,7 +5,7 @@ use Prim.Native.Nat.{ℕ, _*_}
 use lib.IntN.{ℤ}
 use Rattle.farm.specs.Limits.{limits}
 use Rattle.farm.specs.Sets.{Seats}
-use Rattle.construction.specs.declared.sizes.Sizes.{Sizes}
+use Rattle.viewing.specs.declared.sizes.Sizes.{Sizes}
 use Rattle.record.specs.declared.header.Header.{Header}
 use Rattle.record.specs.Record.{Reading, good, bad}
 use Rattle.record.specs.Tables.{seatsOf, timesOf, over}

@@ -16,7 +16,7 @@ use crate::views::ask_known;
 use crate::views::ask_standing;
 use crate::views::ask_view;
 use crate::views::ask_view_into;
-use construction::sizes::Sizes;
+use viewing::sizes::Sizes;
 use farm::places::Seat;
 use farm::places::Time;
 use record::answers::Judged;

@@ -1,6 +1,6 @@
 // What a question needs of a record's bytes: all of the record is read, and the loss sets, or these
 // with the places of the edits, stay in lent lists.
-use construction::sizes::Sizes;
+use viewing::sizes::Sizes;
 use record::header::Header;
 use record::answers::Checked;
 use reading::tables::read;

@@ -7,7 +7,7 @@ ghost use Prim.Native.Nat.{suc, _≤_};
 ghost use lib.ListN.{length};
 ghost use Rattle.farm.specs.Limits.{limits};
 ghost use Rattle.knowledge.specs.Views.{latest, latestTimes};
-ghost use Rattle.construction.specs.Counts.{held};
+ghost use Rattle.viewing.specs.Counts.{held};
 ghost use Rattle.questions.specs.Accepted.{InTime};
 ghost use Rattle.questions.specs.Answers.{laid, timesAnswer};
 ghost use Rattle.questions.specs.Question.{refused};

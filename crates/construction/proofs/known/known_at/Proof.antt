@@ -1,7 +1,7 @@
 -- `construction::known::known_at` meets its contract: the array holds the seat's part of the table.
 -- Assumes nothing.
 use Rattle.construction.proofs.KnownSteps.{known-held}
-use Rattle.construction.specs.Counts.{farmFor, viewIn}
+use Rattle.viewing.specs.Counts.{farmFor, viewIn}
 use mathlib.Core.Path.{_∙_}
 use borrow.Author.Needs.{needs}
 use Rattle.construction.proofs.known.known_at.Statement.{statement}

@@ -1,8 +1,8 @@
 -- `construction::known::known_in` meets its contract: before seat z the set has the known seats below z.
 -- Assumes nothing.
 use Rattle.knowledge.specs.Known.{missed, knownIn}
-use Rattle.construction.proofs.SetSteps.{collect-turn, collect-fits}
-use Rattle.construction.specs.Counts.{farmFor, held}
+use Rattle.viewing.proofs.SetSteps.{collect-turn, collect-fits}
+use Rattle.viewing.specs.Counts.{farmFor, held}
 use Rattle.farm.specs.Sets.{collect}
 use native.Mathlib.Omega.{arith}
 use Prim.Native.Nat.{ℕ, zero-le, _-_, _≤_}

@@ -1,7 +1,7 @@
 -- `construction::known::known_of` meets its contract: the array holds the view.
 -- Assumes nothing.
 use Rattle.construction.proofs.KnownSteps.{known-held}
-use Rattle.construction.specs.Counts.{farmFor}
+use Rattle.viewing.specs.Counts.{farmFor}
 use Rattle.knowledge.specs.Views.{viewOf}
 use mathlib.Core.Path.{_∙_}
 use borrow.Author.Needs.{needs}

@@ -1,8 +1,8 @@
 -- `construction::known::known_sets` meets its contract: before seat p the array has the known sets of the seats below p.
 -- Assumes nothing.
-use Rattle.construction.proofs.CountLaws.{filled-none, filled-turn}
+use Rattle.viewing.proofs.CountLaws.{filled-none, filled-turn}
 use Rattle.construction.proofs.KnownSteps.{knownFrom, known-in-all}
-use Rattle.construction.specs.Counts.{room, counts, filled, farmFor}
+use Rattle.viewing.specs.Counts.{room, counts, filled, farmFor}
 use native.Mathlib.Omega.{arith}
 use Prim.Native.Nat.{ℕ, zero-le, _-_, _≤_}
 use mathlib.Core.Path.{_≡_, _∙_, ap}

@@ -1,7 +1,8 @@
 -- `construction::known::missed_at` meets its contract: before round r none of the rounds below r has lost the send.
 -- Assumes nothing.
 use Rattle.construction.proofs.KnownSteps.{lost-start, lost-found, lost-turn, lost-end}
-use Rattle.construction.specs.Counts.{lostBefore, farmFor}
+use Rattle.viewing.specs.Counts.{farmFor}
+use Rattle.construction.specs.KnownSets.{lostBefore}
 use mathlib.Core.Bool.{false}
 use native.Mathlib.Omega.{arith}
 use Prim.Native.Nat.{_-_, _≤_}

@@ -1,7 +1,7 @@
 -- `construction::known::missed_in` meets its contract: before seat q no send of z into the view of a seat below q was lost.
 -- Assumes nothing.
 use Rattle.construction.proofs.KnownSteps.{any-end, missed-found, missed-turn}
-use Rattle.construction.specs.Counts.{held, farmFor}
+use Rattle.viewing.specs.Counts.{held, farmFor}
 use Rattle.knowledge.specs.Known.{missed, missedAt}
 use Rattle.farm.specs.Sets.{any}
 use mathlib.Core.Bool.{false}

@@ -1,7 +1,7 @@
 -- `construction::losers::is_loser` meets its contract: the set of losers has the seats that lost a send.
 -- Assumes nothing.
 use Rattle.construction.proofs.KnownSteps.{loser-bit}
-use Rattle.construction.specs.Counts.{farmFor}
+use Rattle.viewing.specs.Counts.{farmFor}
 use borrow.Author.Needs.{needs}
 use Rattle.construction.proofs.losers.is_loser.Statement.{statement}
 use Rattle.construction.proofs.losers.is_loser.Tie as tie

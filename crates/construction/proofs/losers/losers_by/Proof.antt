@@ -1,8 +1,8 @@
 -- `construction::losers::losers_by` meets its contract: before seat z the set has the losers below z.
 -- Assumes nothing.
 use Rattle.knowledge.specs.Farm.{losesBy, losersBy}
-use Rattle.construction.proofs.SetSteps.{collect-turn, collect-fits}
-use Rattle.construction.specs.Counts.{farmFor}
+use Rattle.viewing.proofs.SetSteps.{collect-turn, collect-fits}
+use Rattle.viewing.specs.Counts.{farmFor}
 use Rattle.farm.specs.Sets.{collect}
 use native.Mathlib.Omega.{arith}
 use Prim.Native.Nat.{ℕ, zero-le, _-_, _≤_}

@@ -1,7 +1,7 @@
 -- `construction::losers::loses_by` meets its contract: before round k + 1 no send was lost in the rounds up to k.
 -- Assumes nothing.
 use Rattle.construction.proofs.KnownSteps.{loses-start, loses-found, loses-turn, loses-end}
-use Rattle.construction.specs.Counts.{farmFor}
+use Rattle.viewing.specs.Counts.{farmFor}
 use Rattle.knowledge.specs.Farm.{losesBy}
 use mathlib.Core.Bool.{false}
 use native.Mathlib.Omega.{arith}

@@ -1,8 +1,8 @@
 -- `construction::sets::size_of` meets its contract.
 -- Assumes nothing.
-use mathlib.Core.Path.{_≡_, refl, sym, _∙_}
+use mathlib.Core.Path.{_≡_, refl, _∙_, ap}
 use mathlib.Core.Logic.{⊎-elim}
-use Prim.Native.Nat.{zero-le, _-_, _≤_}
+use Prim.Native.Nat.{ℕ, zero-le, _-_, _≤_}
 use native.Mathlib.Omega.{arith}
 use borrow.Author.Needs.{needs}
 use Rattle.farm.specs.Sets.{size}
@@ -40,14 +40,17 @@ loop-again : tie.Need-loop-again Inv-loop μ-loop
 loop-again c =
     let l = c .before .before .before .loop in
     let set = c .before .before .before .before .args .set in
-    let found = c .before .holds .ensures in (
+    let found = c .before .holds in (
       omega arith,
-      ⊎-elim (λ w. cc (size-with (l .q) set (sym found ∙ w .0 .taken))) (λ w. cc (size-without (l .q) set (sym found ∙ w .0 .left)))
-          (c .if1 .came),
+      ⊎-elim (λ w. w .1 ∙ size-with (l .q) set (l .members) (found .result) (l .inv .1) (found .ensures) (w .0 .taken))
+          (λ w. w .1 ∙ size-without (l .q) set (l .members) (found .result) (l .inv .1) (found .ensures) (w .0 .left)) (c .if1 .came),
     )
 
 returns : tie.Need-returns Inv-loop μ-loop
-returns c = let e : c .before .loop .q ≡ c .before .before .args .seats = omega arith in cc
+returns c =
+    let a = c .before .before .args in
+    let e : c .before .loop .q ≡ a .seats = omega arith in
+    c .before .loop .inv .1 ∙ ap (λ (q : ℕ). size q (a .set)) e
 
 pub size-of-spec : {M : Type 1} → statement M
 size-of-spec =

@@ -4,7 +4,7 @@ use mir.ValLaws.{toZ-ofZ}
 use lib.IntN.{pos, _-ℤ_}
 use mir.Syntax.{w16}
 use Rattle.construction.proofs.SettleSteps.{next-found, next-shrinks, next-is-less, settled-here, settled-on}
-use Rattle.construction.specs.Counts.{farmFor}
+use Rattle.viewing.specs.Counts.{farmFor}
 use Rattle.farm.specs.Sets.{size}
 use native.Mathlib.Omega.{arith}
 use mathlib.Core.Path.{_≡_, _∙_, ap}

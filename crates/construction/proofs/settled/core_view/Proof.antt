@@ -1,7 +1,7 @@
 -- `construction::settled::core_view` meets its contract: k = ℓ − (t + 1 − |B|), and before time 0 a view is empty.
 -- Assumes nothing.
 use Rattle.construction.proofs.SettleSteps.{core-early, core-found}
-use Rattle.construction.specs.Counts.{farmFor}
+use Rattle.viewing.specs.Counts.{farmFor}
 use borrow.Author.Needs.{needs}
 use Rattle.construction.proofs.settled.core_view.Statement.{statement}
 use Rattle.construction.proofs.settled.core_view.Tie as tie

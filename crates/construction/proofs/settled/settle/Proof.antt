@@ -1,7 +1,7 @@
 -- `construction::settled::settle` meets its contract: rule 6 decides, and the asking seat's own known set begins the steps.
 -- Assumes nothing.
 use Rattle.construction.proofs.SettleSteps.{own-shrinks, answer-over, answer-within}
-use Rattle.construction.specs.Counts.{farmFor}
+use Rattle.viewing.specs.Counts.{farmFor}
 use Rattle.farm.specs.Sets.{size}
 use native.Mathlib.Omega.{arith}
 use Prim.Native.Nat.{_≤_}

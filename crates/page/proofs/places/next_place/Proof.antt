@@ -1,7 +1,7 @@
 -- `page::places::next_place` meets its contract: seats with one known set share what is asked of their places.
 -- Assumes nothing.
 use borrow.Author.Needs.{needs}
-use Rattle.construction.specs.Counts.{farmFor}
+use Rattle.viewing.specs.Counts.{farmFor}
 use Rattle.page.proofs.LineLaws.{same-place}
 use Rattle.page.proofs.places.next_place.Statement.{statement}
 use Rattle.page.proofs.places.next_place.Tie as tie

@@ -6,7 +6,7 @@ use native.Mathlib.Numerals.{add-one}
 use native.Mathlib.Omega.{arith}
 use lib.ListN.{length}
 use Rattle.knowledge.specs.Farm.{seat}
-use Rattle.construction.specs.Counts.{farmFor}
+use Rattle.viewing.specs.Counts.{farmFor}
 use Rattle.lines.specs.Printing.{Puts}
 use Rattle.lines.proofs.PrintLaws.{puts-nothing, puts-then}
 use Rattle.page.specs.Page.{linesAt}

@@ -5,7 +5,7 @@ use Prim.Native.Nat.{suc, _+_, _*_, _-_, _≤_}
 use native.Mathlib.Numerals.{add-one}
 use native.Mathlib.Omega.{arith}
 use lib.ListN.{length}
-use Rattle.construction.specs.Counts.{farmFor}
+use Rattle.viewing.specs.Counts.{farmFor}
 use Rattle.lines.specs.Printing.{Puts}
 use Rattle.lines.proofs.PrintLaws.{puts-nothing, puts-then}
 use Rattle.page.specs.Page.{linesOf}

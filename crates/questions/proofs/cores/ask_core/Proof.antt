@@ -4,7 +4,7 @@ use Rattle.questions.proofs.AskLaws.{settled-by-value}
 use Rattle.questions.proofs.BufferLaws.{by-value}
 use Rattle.questions.proofs.CoreLaws.{core-alike}
 use Rattle.questions.specs.Question.{byValue, buffer}
-use Rattle.construction.specs.Counts.{farmFor}
+use Rattle.viewing.specs.Counts.{farmFor}
 use native.Mathlib.Omega.{arith}
 use denote.Ref.{now}
 use borrow.Author.Needs.{needs}

@@ -6,7 +6,7 @@ use Rattle.questions.proofs.CoreLaws.{core-array, core-in-limits, ruled
 use Rattle.questions.proofs.TimeLaws.{times-held, length-counts}
 use Rattle.questions.specs.Answers.{laid}
 use Rattle.questions.specs.Question.{isPlace, buffer}
-use Rattle.construction.specs.Counts.{farmFor}
+use Rattle.viewing.specs.Counts.{farmFor}
 use lib.IntN.{ℤ}
 use lib.ListN.{length}
 use borrow.Author.Tests.{not-true, not-false}

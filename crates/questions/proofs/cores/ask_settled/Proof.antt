@@ -5,7 +5,7 @@ use Rattle.questions.proofs.CoreLaws.{ruled-out, ruled-in, outcome-foun
 use Rattle.questions.specs.Answers.{settledAnswer}
 use Rattle.questions.specs.Question.{isPlace, byValue}
 use Rattle.questions.specs.declared.answers.SettledAnswer.the-variants.{Settled}
-use Rattle.construction.specs.Counts.{farmFor}
+use Rattle.viewing.specs.Counts.{farmFor}
 use borrow.Author.Tests.{not-true, not-false}
 use native.Mathlib.Omega.{arith}
 use mathlib.Core.Path.{sym, _∙_, ap}

@@ -7,7 +7,7 @@ use Rattle.questions.specs.Answers.{countAnswer}
 use Rattle.questions.specs.Marks.{countIn}
 use Rattle.questions.specs.Question.{isPlace, byValue}
 use Rattle.questions.specs.declared.answers.Count.the-variants.{Edits}
-use Rattle.construction.specs.Counts.{farmFor}
+use Rattle.viewing.specs.Counts.{farmFor}
 use Rattle.knowledge.specs.Views.{View}
 use borrow.Author.Tests.{not-true, not-false}
 use native.Mathlib.Omega.{arith}

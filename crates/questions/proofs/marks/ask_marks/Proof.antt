@@ -7,7 +7,7 @@ use Rattle.questions.proofs.MarkLaws.{marks-refused, marks-found, core-
 use Rattle.questions.specs.Answers.{laid}
 use Rattle.questions.specs.Marks.{marksIn}
 use Rattle.questions.specs.Question.{isPlace, buffer}
-use Rattle.construction.specs.Counts.{farmFor}
+use Rattle.viewing.specs.Counts.{farmFor}
 use Rattle.knowledge.specs.Views.{View}
 use lib.ListN.{length}
 use borrow.Author.Tests.{not-true, not-false}

@@ -3,7 +3,7 @@
 -- Assumes nothing.
 use Rattle.questions.proofs.MarkLaws.{mark-small, count-turn, count-end}
 use Rattle.questions.specs.Marks.{countIn}
-use Rattle.construction.specs.Counts.{held}
+use Rattle.viewing.specs.Counts.{held}
 use lib.ListN.{length, drop}
 use Prim.Native.Nat.{_+_, _-_, _≤_}
 use native.Mathlib.Omega.{arith}

@@ -4,7 +4,7 @@
 use Rattle.questions.proofs.BufferLaws.{laidTo, laid-turn, laid-whole}
 use Rattle.questions.proofs.MarkLaws.{length-marks, getD-marks}
 use Rattle.questions.specs.Marks.{marksIn}
-use Rattle.construction.specs.Counts.{held}
+use Rattle.viewing.specs.Counts.{held}
 use lib.ListN.{length, length-set}
 use Prim.Native.Nat.{_-_, _≤_}
 use native.Mathlib.Omega.{arith}

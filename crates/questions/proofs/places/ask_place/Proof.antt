@@ -8,7 +8,7 @@ use Rattle.questions.proofs.TimeLaws.{times-held, length-counts}
 use Rattle.questions.specs.Answers.{laid, noTimes}
 use Rattle.questions.specs.Marks.{countIn}
 use Rattle.questions.specs.Question.{isPlace, byValue}
-use Rattle.construction.specs.Counts.{farmFor}
+use Rattle.viewing.specs.Counts.{farmFor}
 use Rattle.knowledge.specs.Views.{View}
 use lib.IntN.{ℤ}
 use lib.ListN.{length}

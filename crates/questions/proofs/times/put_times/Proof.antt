@@ -4,7 +4,7 @@
 use Rattle.questions.proofs.BufferLaws.{laidTo, laid-turn, laid-whole}
 use Rattle.questions.proofs.TimeLaws.{length-times, getD-times, time-kept}
 use Rattle.knowledge.specs.Views.{latestTimes}
-use Rattle.construction.specs.Counts.{held}
+use Rattle.viewing.specs.Counts.{held}
 use lib.IntN.{pos}
 use lib.ListN.{length, getD, length-set}
 use Prim.Native.Nat.{_-_, _≤_}

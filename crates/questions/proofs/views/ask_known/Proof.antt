@@ -4,7 +4,7 @@ use Rattle.questions.proofs.AskLaws.{place-below, known-nowhere, known-
 use Rattle.questions.specs.Answers.{knownAnswer}
 use Rattle.questions.specs.Question.{isPlace}
 use Rattle.questions.specs.declared.answers.Known.the-variants.{Set}
-use Rattle.construction.specs.Counts.{farmFor}
+use Rattle.viewing.specs.Counts.{farmFor}
 use borrow.Author.Tests.{not-true, not-false}
 use native.Mathlib.Omega.{arith}
 use mathlib.Core.Path.{sym, _∙_, ap}

@@ -2,7 +2,7 @@
 -- Assumes nothing.
 use Rattle.questions.proofs.AskLaws.{loser-nowhere, loser-found}
 use Rattle.questions.specs.Answers.{standingAnswer}
-use Rattle.construction.specs.Counts.{farmFor}
+use Rattle.viewing.specs.Counts.{farmFor}
 use mathlib.Core.Bool.{true, false}
 use mathlib.Core.Path.{sym, _∙_, ap}
 use denote.Ref.{now}

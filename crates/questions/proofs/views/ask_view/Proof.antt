@@ -2,7 +2,7 @@
 -- Assumes nothing.
 use Rattle.questions.proofs.AskLaws.{view-by-value}
 use Rattle.questions.proofs.BufferLaws.{by-value}
-use Rattle.construction.specs.Counts.{farmFor}
+use Rattle.viewing.specs.Counts.{farmFor}
 use native.Mathlib.Omega.{arith}
 use denote.Ref.{now}
 use borrow.Author.Needs.{needs}

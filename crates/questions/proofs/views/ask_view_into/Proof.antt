@@ -5,7 +5,7 @@ use Rattle.questions.proofs.BufferLaws.{refused-buffer, found-buffer}
 use Rattle.questions.proofs.TimeLaws.{times-held, length-counts, counts-bound}
 use Rattle.questions.specs.Answers.{laid}
 use Rattle.questions.specs.Question.{isPlace, buffer}
-use Rattle.construction.specs.Counts.{farmFor}
+use Rattle.viewing.specs.Counts.{farmFor}
 use Rattle.knowledge.specs.Views.{viewOf}
 use lib.IntN.{ℤ}
 use lib.ListN.{length}

@@ -1,0 +1,4 @@
+pub mod SetSteps
+pub mod CountLaws
+pub mod ViewSteps
+pub mod CompleteLaws

@@ -1,0 +1,2 @@
+-- How the code holds views, beside the rules of knowledge.
+pub mod Counts
