@@ -4,3 +4,4 @@ pub mod ViewSteps
 pub mod KnownSteps
 pub mod SettleSteps
 pub mod CompleteLaws
+pub mod Looks

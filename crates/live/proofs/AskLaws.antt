@@ -1,19 +1,17 @@
 -- What a question on a table, and writing it out, come to: 19, or the answer of the record in its used part.
 -- Assumes nothing.
-use mathlib.Core.Path.{_≡_, refl, sym, _∙_, ap, ap₂}
+use mathlib.Core.Path.{_≡_, refl, sym, _∙_}
 use mathlib.Core.Bool.{true, false}
 use mathlib.Core.List.{List}
 use Prim.Native.Nat.{ℕ, _-_, _*_, _≤_}
 use native.Mathlib.Omega.{arith}
 use lib.ListN.{length, take}
 use Rattle.farm.specs.Limits.{limits}
-use Rattle.farm.specs.declared.places.Seat.{Seat}
-use Rattle.farm.specs.declared.places.Time.{Time}
 use Rattle.farm.specs.declared.refusals.Refusal.the-variants.{BadTable}
 use Rattle.record.specs.Answers.{listsOf, writtenIn}
 use Rattle.record.specs.Columns.{tablesOf}
 use Rattle.record.specs.Good.{goodRecord}
-use Rattle.record.specs.Record.{Record, good, bad}
+use Rattle.record.specs.Record.{good, bad}
 use Rattle.record.specs.Tables.{Tables}
 use Rattle.record.specs.Writing.{checkedLists, answered, writtenTo, bufferWith, bufferAfter}
 use Rattle.record.specs.declared.writing.Written.{Written}
@@ -21,13 +19,8 @@ use Rattle.record.specs.declared.writing.Written.the-variants.{Refused as NotWr
 use Rattle.record.proofs.ColumnLaws.{Columns, columns-from-edits}
 use Rattle.record.proofs.GoodLaws.{header-facts, record-facts}
 use Rattle.record.proofs.WritingLaws.{good-lists-accepted}
-use Rattle.questions.specs.Accepted.{Accepted as Accepts, marksOn, countOn}
-use Rattle.questions.specs.Marks.{marksIn, countIn}
-use Rattle.questions.proofs.MarkLaws.{marks-of-edits, count-of-edits}
-use Rattle.questions.specs.Answers.{givenAnswer, into}
-use Rattle.questions.specs.declared.answers.Given.{Given}
-use Rattle.questions.specs.declared.answers.Given.the-variants as Given′
-use Rattle.questions.specs.Question.{Asked, found, refused, onRecord, looking, Lent, byValue, settledIn, farmOfRecord, marksOf, countOf}
+use Rattle.questions.specs.Accepted.{Accepted as Accepts}
+use Rattle.questions.specs.Question.{found}
 use Rattle.live.specs.declared.table.Table.{Table}
 use Rattle.live.specs.Used.{usedRecord, tableReading}
 use Rattle.live.proofs.ListLaws.{cut-full}
@@ -41,26 +34,6 @@ pub reads-bad : (table : Table) → goodRecord limits (usedRecord table) ≡ fal
 unfolding tableReading
 reads-bad table h = rw h
 
--- ════ Questions ════
-
-module _ (table : Table) where
-  pub asked-bad : {A : Type 0} (ask : Record → Asked A) → goodRecord limits (usedRecord table) ≡ false → onRecord (tableReading table) ask ≡ refused BadTable
-  unfolding onRecord
-  asked-bad ask h = rw (reads-bad table h)
-
-  pub asked-good : {A : Type 0} (ask : Record → Asked A) → goodRecord limits (usedRecord table) ≡ true → onRecord (tableReading table) ask ≡ ask (usedRecord table)
-  unfolding onRecord
-  asked-good ask h = rw (reading-good table h)
-
--- The same of a lent buffer.
-pub bad-buffer : {A : Type 0} (asked : Asked (List A)) (old : List A) → asked ≡ refused BadTable
-    → (Given′.Refused BadTable ≡ givenAnswer asked) × (old ≡ into asked old)
-bad-buffer asked old e = rw e (refl, refl)
-
-pub same-buffer : {A : Type 0} (asked on : Asked (List A)) (old new : List A) (answer : Given) → asked ≡ on
-    → (answer ≡ givenAnswer on) × (new ≡ into on old) → (answer ≡ givenAnswer asked) × (new ≡ into asked old)
-same-buffer asked on old new answer e f = rw e f
-
 module _ (table : Table) where
   -- What the questions ask of an accepted record's numbers.
   pub accepted-sizes : goodRecord limits (usedRecord table) ≡ true → Accepts (record { seats = table .seats; bound = table .bound; rounds = table .rounds })
@@ -69,17 +42,12 @@ module _ (table : Table) where
       let f = header-facts limits _ (record-facts limits (usedRecord table) g .header) in
       record { seats = f .most; bound = omega arith; rounds = f .rounds }
 
-looking-same : {A B : Type 0} (f g : A → B) → ((a : A) → f a ≡ g a) → (asked : Asked A) → looking f asked ≡ looking g asked
-unfolding looking
-looking-same f g h (found a) = ap found (h a)
-looking-same f g h (refused r) = refl
-
 -- The edits of a good used part, and the lists that they stand in.
 module _ (table : Table) (g : goodRecord limits (usedRecord table) ≡ true) where
   abbrev E : ℕ
   E = table .edits
 
-  columns : Columns (take E (table .editors)) (take E (table .times)) (take E (table .cells)) (take E (table .changes)) (usedRecord table .edits)
+  pub columns : Columns (take E (table .editors)) (take E (table .times)) (take E (table .cells)) (take E (table .changes)) (usedRecord table .edits)
   unfolding usedRecord
   columns =
       let full = cut-full E (table .editors) (table .times) (table .cells) (table .changes) (record-facts limits (usedRecord table) g .editCount) in
@@ -89,20 +57,6 @@ module _ (table : Table) (g : goodRecord limits (usedRecord table) ≡ true) whe
   pub few-edits : E ≤ 512
   unfolding usedRecord
   few-edits = header-facts limits _ (record-facts limits (usedRecord table) g .header) .edits
-
-  pub used-count : (p : Seat) (ℓ : Time)
-      → looking (λ s. countOf (s .core) (usedRecord table .edits)) (settledIn byValue 0 (farmOfRecord (usedRecord table)) p ℓ)
-      ≡ countOn (farmOfRecord (usedRecord table)) (take E (table .editors)) (take E (table .times)) p ℓ
-  unfolding countOn
-  used-count p ℓ = looking-same _ _ (λ s. count-of-edits (s .core) (usedRecord table .edits) ∙ ap₂ (countIn (s .core)) (columns .seats-same) (columns .times-same)) _
-
-  pub used-marks : (room : Lent) (p : Seat) (ℓ : Time)
-      → looking (λ s. marksOf (s .core) (usedRecord table .edits)) (settledIn room (length (usedRecord table .edits)) (farmOfRecord (usedRecord table)) p ℓ)
-      ≡ marksOn room (farmOfRecord (usedRecord table)) (take E (table .editors)) (take E (table .times)) p ℓ
-  unfolding marksOn
-  used-marks room p ℓ =
-      rw (columns .count)
-      (looking-same _ _ (λ s. marks-of-edits (s .core) (usedRecord table .edits) ∙ ap₂ (marksIn (s .core)) (columns .seats-same) (columns .times-same)) _)
 
   -- The lists of the used part are accepted as the record that it is.
   pub used-lists : tableReading table

@@ -17,3 +17,4 @@ pub mod Stepped
 pub mod ContractRuns
 pub mod CompleteLaws
 pub mod Promises
+pub mod CarriedLaws

@@ -1,39 +1,35 @@
 // Questions on the host's table: 19, 8, 7, 9. Each lends the table's parts to a covered function, so that
 // nothing of the table is copied but its numbers.
+use crate::lent::agreed_from;
 use crate::lent::core_from;
-use crate::lent::core_into_from;
-use crate::lent::count_from;
-use crate::lent::known_from;
 use crate::lent::marks_from;
-use crate::lent::settled_from;
+use crate::lent::seen_from;
 use crate::lent::standing_from;
 use crate::lent::view_from;
-use crate::lent::view_into_from;
 use crate::lent::write_from;
 use crate::table::Table;
 use farm::places::Seat;
 use farm::places::Time;
-use questions::answers::Count;
 use questions::answers::Given;
-use questions::answers::Known;
-use questions::answers::SettledAnswer;
+use questions::answers::Place;
+use questions::answers::Seen;
 use questions::answers::Standing;
-use questions::answers::Times;
 use record::writing::Written;
 ghost use mathlib.Core.Path.{_≡_};
 ghost use lib.ListN.{length};
 ghost use Rattle.farm.specs.Limits.{limits};
 ghost use Rattle.record.specs.Answers.{writtenIn};
 ghost use Rattle.record.specs.Writing.{answered, bufferWith};
-ghost use Rattle.questions.specs.Answers.{knownAnswer, countAnswer, settledAnswer, standingAnswer, givenAnswer, into, timesAnswer};
-ghost use Rattle.questions.specs.Question.{byValue, buffer, viewAsked, knownAsked, settledAsked, coreAsked, marksAsked, countAsked, loserAsked};
+ghost use Rattle.questions.specs.Question.{viewAsked, coreAsked, marksAsked, loserAsked};
+ghost use Rattle.questions.specs.Carried.{seenAsked, agreedAsked};
+ghost use Rattle.questions.specs.Answers.{Fills, standingAnswer};
 ghost use Rattle.live.specs.Used.{tableReading};
 
-// The known set of a place's view.
-pub fn known(table: &Table, seat: Seat, time: Time) -> Known
-    ensures { λ r. ⌜ r ≡ knownAnswer (knownAsked (tableReading (now (table .entry))) seat time) ⌝ }
+// What a seat has seen at a time: its view, and the known set.
+pub fn seen(table: &Table, seat: Seat, time: Time) -> Seen
+    ensures { λ r. ⌜ r ≡ seenAsked (tableReading (now (table .entry))) seat time ⌝ }
 {
-    known_from(
+    seen_from(
         &table.losses,
         &table.editors,
         &table.times,
@@ -48,11 +44,11 @@ pub fn known(table: &Table, seat: Seat, time: Time) -> Known
     )
 }
 
-// Critical time, kept set and count of steps.
-pub fn settled(table: &Table, seat: Seat, time: Time) -> SettledAnswer
-    ensures { λ r. ⌜ r ≡ settledAnswer (settledAsked (tableReading (now (table .entry))) seat time) ⌝ }
+// What is agreed at a place: critical time, kept set, steps, the core and how many edits are in it.
+pub fn agreed(table: &Table, seat: Seat, time: Time) -> Place
+    ensures { λ r. ⌜ r ≡ agreedAsked (tableReading (now (table .entry))) seat time ⌝ }
 {
-    settled_from(
+    agreed_from(
         &table.losses,
         &table.editors,
         &table.times,
@@ -67,7 +63,7 @@ pub fn settled(table: &Table, seat: Seat, time: Time) -> SettledAnswer
     )
 }
 
-// Whether a seat is a loser of the record so far, or clean.
+// Whether a seat is a loser of the whole record, or clean.
 pub fn standing(table: &Table, seat: Seat) -> Standing
     ensures { λ r. ⌜ r ≡ standingAnswer (loserAsked (tableReading (now (table .entry))) seat) ⌝ }
 {
@@ -85,51 +81,11 @@ pub fn standing(table: &Table, seat: Seat) -> Standing
     )
 }
 
-// The view of a place, by value.
-pub fn view(table: &Table, seat: Seat, time: Time) -> Times
-    ensures { λ r. ⌜ r ≡ timesAnswer (viewAsked byValue (tableReading (now (table .entry))) seat time) ⌝ }
+// The view of a place, into a lent buffer of at least n numbers.
+pub fn view(table: &Table, seat: Seat, time: Time, out: &mut [i16]) -> Given
+    ensures { λ r. ⌜ Fills (λ room. viewAsked room (tableReading (now (table .entry))) seat time) (now (out .entry)) r (now (out .exit)) ⌝ }
 {
     view_from(
-        &table.losses,
-        &table.editors,
-        &table.times,
-        &table.cells,
-        &table.changes,
-        table.seats,
-        table.bound,
-        table.rounds,
-        table.edits,
-        seat,
-        time,
-    )
-}
-
-// The core of a place, by value.
-pub fn core(table: &Table, seat: Seat, time: Time) -> Times
-    ensures { λ r. ⌜ r ≡ timesAnswer (coreAsked byValue (tableReading (now (table .entry))) seat time) ⌝ }
-{
-    core_from(
-        &table.losses,
-        &table.editors,
-        &table.times,
-        &table.cells,
-        &table.changes,
-        table.seats,
-        table.bound,
-        table.rounds,
-        table.edits,
-        seat,
-        time,
-    )
-}
-
-// The view of a place, into a lent buffer of at least n numbers.
-pub fn view_into(table: &Table, seat: Seat, time: Time, out: &mut [i16]) -> Given
-    ensures { λ r.
-        ⌜ (r ≡ givenAnswer (viewAsked (buffer (length (now (out .entry)))) (tableReading (now (table .entry))) seat time))
-        × (now (out .exit) ≡ into (viewAsked (buffer (length (now (out .entry)))) (tableReading (now (table .entry))) seat time) (now (out .entry))) ⌝ }
-{
-    view_into_from(
         &table.losses,
         &table.editors,
         &table.times,
@@ -146,12 +102,10 @@ pub fn view_into(table: &Table, seat: Seat, time: Time, out: &mut [i16]) -> Give
 }
 
 // The core of a place, into a lent buffer of at least n numbers.
-pub fn core_into(table: &Table, seat: Seat, time: Time, out: &mut [i16]) -> Given
-    ensures { λ r.
-        ⌜ (r ≡ givenAnswer (coreAsked (buffer (length (now (out .entry)))) (tableReading (now (table .entry))) seat time))
-        × (now (out .exit) ≡ into (coreAsked (buffer (length (now (out .entry)))) (tableReading (now (table .entry))) seat time) (now (out .entry))) ⌝ }
+pub fn core(table: &Table, seat: Seat, time: Time, out: &mut [i16]) -> Given
+    ensures { λ r. ⌜ Fills (λ room. coreAsked room (tableReading (now (table .entry))) seat time) (now (out .entry)) r (now (out .exit)) ⌝ }
 {
-    core_into_from(
+    core_from(
         &table.losses,
         &table.editors,
         &table.times,
@@ -167,30 +121,9 @@ pub fn core_into(table: &Table, seat: Seat, time: Time, out: &mut [i16]) -> Give
     )
 }
 
-// How many edits of the record so far are in the core of a place.
-pub fn count(table: &Table, seat: Seat, time: Time) -> Count
-    ensures { λ r. ⌜ r ≡ countAnswer (countAsked (tableReading (now (table .entry))) seat time) ⌝ }
-{
-    count_from(
-        &table.losses,
-        &table.editors,
-        &table.times,
-        &table.cells,
-        &table.changes,
-        table.seats,
-        table.bound,
-        table.rounds,
-        table.edits,
-        seat,
-        time,
-    )
-}
-
 // Edit marks into a lent buffer of at least as many bytes as there are edits: 1 in the core, 0 outside.
 pub fn marks(table: &Table, seat: Seat, time: Time, out: &mut [u8]) -> Given
-    ensures { λ r.
-        ⌜ (r ≡ givenAnswer (marksAsked (buffer (length (now (out .entry)))) (tableReading (now (table .entry))) seat time))
-        × (now (out .exit) ≡ into (marksAsked (buffer (length (now (out .entry)))) (tableReading (now (table .entry))) seat time) (now (out .entry))) ⌝ }
+    ensures { λ r. ⌜ Fills (λ room. marksAsked room (tableReading (now (table .entry))) seat time) (now (out .entry)) r (now (out .exit)) ⌝ }
 {
     marks_from(
         &table.losses,

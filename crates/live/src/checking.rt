@@ -1,11 +1,15 @@
 // Refusal 19: whether the used part of a table is a good record. The table may hold anything, so its
 // sizes are tested before the used part is cut out of the arrays.
+use farm::refusals::Refusal;
+use record::header::Header;
 use record::judging::Judged;
 use record::judging::judge;
+use record::read::Checked;
 ghost use mathlib.Core.Path.{_≡_};
 ghost use Rattle.farm.specs.Limits.{limits};
 ghost use Rattle.record.specs.Good.{goodRecord};
-ghost use Rattle.live.specs.Used.{usedRecord, tableOf, ArraysLong};
+ghost use Rattle.questions.specs.Carried.{Carried};
+ghost use Rattle.live.specs.Used.{usedRecord, tableReading, tableOf, ArraysLong};
 
 pub fn judge_table<'a>(
     losses: &'a [u16],
@@ -46,4 +50,40 @@ pub fn judge_table<'a>(
         Judged::Accepted => true,
         Judged::Refused(_) => false,
     }
+}
+
+// What a table reads as: 19, or the header of the record in its used part.
+pub fn check_table<'a>(
+    losses: &'a [u16],
+    editors: &'a [u8],
+    times: &'a [u16],
+    cells: &'a [u32],
+    changes: &'a [i16],
+    seats: u8,
+    bound: u8,
+    rounds: u16,
+    edits: u16,
+) -> Checked
+    requires { ⌜ ArraysLong (now losses) (now editors) (now times) (now cells) (now changes) ⌝ }
+    ensures { λ r. ⌜ Carried (tableReading (tableOf (now (losses .entry)) (now (editors .entry)) (now (times .entry)) (now (cells .entry)) (now (changes .entry)) seats bound rounds edits)) r (now (losses .entry)) (now (editors .entry)) (now (times .entry)) ⌝ }
+{
+    if !judge_table(
+        losses,
+        editors,
+        times,
+        cells,
+        changes,
+        seats,
+        bound,
+        rounds,
+        edits,
+    ) {
+        return Checked::Refused(Refusal::BadTable);
+    }
+    Checked::Good(Header {
+        seats,
+        bound,
+        rounds,
+        edits,
+    })
 }

@@ -1,38 +1,35 @@
 // Questions on the parts of a table, lent one by one: 19 first, and then the question on its used part. A host that holds its
 // table by value asks here.
+use crate::checking::check_table;
 use crate::checking::judge_table;
-use crate::used::core_into_used;
-use crate::used::core_used;
-use crate::used::count_used;
-use crate::used::known_used;
-use crate::used::marks_used;
-use crate::used::settled_used;
-use crate::used::standing_used;
-use crate::used::view_into_used;
-use crate::used::view_used;
-use crate::used::write_used;
-use construction::sizes::Sizes;
 use farm::places::Seat;
 use farm::places::Time;
 use farm::refusals::Refusal;
-use questions::answers::Count;
 use questions::answers::Given;
-use questions::answers::Known;
-use questions::answers::SettledAnswer;
+use questions::answers::Place;
+use questions::answers::Seen;
 use questions::answers::Standing;
-use questions::answers::Times;
+use questions::carried::agreed_in;
+use questions::carried::core_in;
+use questions::carried::marks_in;
+use questions::carried::seen_in;
+use questions::carried::standing_in;
+use questions::carried::view_in;
 use record::writing::Written;
+use record::writing::write;
 ghost use mathlib.Core.Path.{_≡_};
-ghost use lib.ListN.{length};
+ghost use Prim.Native.Nat.{_*_, _≤_};
+ghost use lib.ListN.{length, take};
 ghost use Rattle.farm.specs.Limits.{limits};
-ghost use Rattle.record.specs.Answers.{writtenIn};
-ghost use Rattle.record.specs.Writing.{answered, bufferWith};
-ghost use Rattle.questions.specs.Question.{byValue, buffer, viewAsked, knownAsked, settledAsked, coreAsked, marksAsked, countAsked, loserAsked};
-ghost use Rattle.questions.specs.Answers.{knownAnswer, countAnswer, settledAnswer, standingAnswer, givenAnswer, into, timesAnswer};
-ghost use Rattle.live.specs.Used.{tableReading, tableOf};
+ghost use Rattle.record.specs.Answers.{listsOf, writtenIn};
+ghost use Rattle.record.specs.Writing.{answered, bufferWith, writtenTo, bufferAfter};
+ghost use Rattle.questions.specs.Question.{viewAsked, coreAsked, marksAsked, loserAsked};
+ghost use Rattle.questions.specs.Carried.{seenAsked, agreedAsked};
+ghost use Rattle.questions.specs.Answers.{Fills, standingAnswer};
+ghost use Rattle.live.specs.Used.{tableReading, tableOf, ArraysLong};
 
-// The known set of a place's view.
-pub fn known_from<'a>(
+// What a seat has seen at a time: its view, and the known set.
+pub fn seen_from<'a>(
     losses: &'a [u16; 889],
     editors: &'a [u8; 512],
     times: &'a [u16; 512],
@@ -44,10 +41,10 @@ pub fn known_from<'a>(
     edits: u16,
     seat: Seat,
     time: Time,
-) -> Known
-    ensures { λ r. ⌜ r ≡ knownAnswer (knownAsked (tableReading (tableOf (now (losses .entry)) (now (editors .entry)) (now (times .entry)) (now (cells .entry)) (now (changes .entry)) seats bound rounds edits)) seat time) ⌝ }
+) -> Seen
+    ensures { λ r. ⌜ r ≡ seenAsked (tableReading (tableOf (now (losses .entry)) (now (editors .entry)) (now (times .entry)) (now (cells .entry)) (now (changes .entry)) seats bound rounds edits)) seat time ⌝ }
 {
-    if !judge_table(
+    let checked = check_table(
         losses,
         editors,
         times,
@@ -57,23 +54,12 @@ pub fn known_from<'a>(
         bound,
         rounds,
         edits,
-    ) {
-        return Known::Refused(Refusal::BadTable);
-    }
-    known_used(
-        losses,
-        Sizes {
-            seats,
-            bound,
-            rounds,
-        },
-        seat,
-        time,
-    )
+    );
+    seen_in(checked, losses, seat, time)
 }
 
-// Critical time, kept set and count of steps.
-pub fn settled_from<'a>(
+// What is agreed at a place: critical time, kept set, steps, the core and how many edits are in it.
+pub fn agreed_from<'a>(
     losses: &'a [u16; 889],
     editors: &'a [u8; 512],
     times: &'a [u16; 512],
@@ -85,10 +71,10 @@ pub fn settled_from<'a>(
     edits: u16,
     seat: Seat,
     time: Time,
-) -> SettledAnswer
-    ensures { λ r. ⌜ r ≡ settledAnswer (settledAsked (tableReading (tableOf (now (losses .entry)) (now (editors .entry)) (now (times .entry)) (now (cells .entry)) (now (changes .entry)) seats bound rounds edits)) seat time) ⌝ }
+) -> Place
+    ensures { λ r. ⌜ r ≡ agreedAsked (tableReading (tableOf (now (losses .entry)) (now (editors .entry)) (now (times .entry)) (now (cells .entry)) (now (changes .entry)) seats bound rounds edits)) seat time ⌝ }
 {
-    if !judge_table(
+    let checked = check_table(
         losses,
         editors,
         times,
@@ -98,22 +84,11 @@ pub fn settled_from<'a>(
         bound,
         rounds,
         edits,
-    ) {
-        return SettledAnswer::Refused(Refusal::BadTable);
-    }
-    settled_used(
-        losses,
-        Sizes {
-            seats,
-            bound,
-            rounds,
-        },
-        seat,
-        time,
-    )
+    );
+    agreed_in(checked, losses, editors, times, seat, time)
 }
 
-// Whether a seat is a loser of the record so far, or clean.
+// Whether a seat is a loser of the whole record, or clean.
 pub fn standing_from<'a>(
     losses: &'a [u16; 889],
     editors: &'a [u8; 512],
@@ -128,7 +103,7 @@ pub fn standing_from<'a>(
 ) -> Standing
     ensures { λ r. ⌜ r ≡ standingAnswer (loserAsked (tableReading (tableOf (now (losses .entry)) (now (editors .entry)) (now (times .entry)) (now (cells .entry)) (now (changes .entry)) seats bound rounds edits)) seat) ⌝ }
 {
-    if !judge_table(
+    let checked = check_table(
         losses,
         editors,
         times,
@@ -138,21 +113,11 @@ pub fn standing_from<'a>(
         bound,
         rounds,
         edits,
-    ) {
-        return Standing::Refused(Refusal::BadTable);
-    }
-    standing_used(
-        losses,
-        Sizes {
-            seats,
-            bound,
-            rounds,
-        },
-        seat,
-    )
+    );
+    standing_in(checked, losses, seat)
 }
 
-// The view of a place, by value.
+// The view of a place, into a lent buffer of at least n numbers.
 pub fn view_from<'a>(
     losses: &'a [u16; 889],
     editors: &'a [u8; 512],
@@ -165,10 +130,11 @@ pub fn view_from<'a>(
     edits: u16,
     seat: Seat,
     time: Time,
-) -> Times
-    ensures { λ r. ⌜ r ≡ timesAnswer (viewAsked byValue (tableReading (tableOf (now (losses .entry)) (now (editors .entry)) (now (times .entry)) (now (cells .entry)) (now (changes .entry)) seats bound rounds edits)) seat time) ⌝ }
+    out: &mut [i16],
+) -> Given
+    ensures { λ r. ⌜ Fills (λ room. viewAsked room (tableReading (tableOf (now (losses .entry)) (now (editors .entry)) (now (times .entry)) (now (cells .entry)) (now (changes .entry)) seats bound rounds edits)) seat time) (now (out .entry)) r (now (out .exit)) ⌝ }
 {
-    if !judge_table(
+    let checked = check_table(
         losses,
         editors,
         times,
@@ -178,25 +144,11 @@ pub fn view_from<'a>(
         bound,
         rounds,
         edits,
-    ) {
-        return Times {
-            given: Given::Refused(Refusal::BadTable),
-            latest: [-1; 7],
-        };
-    }
-    view_used(
-        losses,
-        Sizes {
-            seats,
-            bound,
-            rounds,
-        },
-        seat,
-        time,
-    )
+    );
+    view_in(checked, losses, seat, time, out)
 }
 
-// The core of a place, by value.
+// The core of a place, into a lent buffer of at least n numbers.
 pub fn core_from<'a>(
     losses: &'a [u16; 889],
     editors: &'a [u8; 512],
@@ -209,57 +161,11 @@ pub fn core_from<'a>(
     edits: u16,
     seat: Seat,
     time: Time,
-) -> Times
-    ensures { λ r. ⌜ r ≡ timesAnswer (coreAsked byValue (tableReading (tableOf (now (losses .entry)) (now (editors .entry)) (now (times .entry)) (now (cells .entry)) (now (changes .entry)) seats bound rounds edits)) seat time) ⌝ }
-{
-    if !judge_table(
-        losses,
-        editors,
-        times,
-        cells,
-        changes,
-        seats,
-        bound,
-        rounds,
-        edits,
-    ) {
-        return Times {
-            given: Given::Refused(Refusal::BadTable),
-            latest: [-1; 7],
-        };
-    }
-    core_used(
-        losses,
-        Sizes {
-            seats,
-            bound,
-            rounds,
-        },
-        seat,
-        time,
-    )
-}
-
-// The view of a place, into a lent buffer of at least n numbers.
-pub fn view_into_from<'a, 'b>(
-    losses: &'a [u16; 889],
-    editors: &'a [u8; 512],
-    times: &'a [u16; 512],
-    cells: &'a [u32; 512],
-    changes: &'a [i16; 512],
-    seats: u8,
-    bound: u8,
-    rounds: u16,
-    edits: u16,
-    seat: Seat,
-    time: Time,
-    out: &'b mut [i16],
+    out: &mut [i16],
 ) -> Given
-    ensures { λ r.
-        ⌜ (r ≡ givenAnswer (viewAsked (buffer (length (now (out .entry)))) (tableReading (tableOf (now (losses .entry)) (now (editors .entry)) (now (times .entry)) (now (cells .entry)) (now (changes .entry)) seats bound rounds edits)) seat time))
-        × (now (out .exit) ≡ into (viewAsked (buffer (length (now (out .entry)))) (tableReading (tableOf (now (losses .entry)) (now (editors .entry)) (now (times .entry)) (now (cells .entry)) (now (changes .entry)) seats bound rounds edits)) seat time) (now (out .entry))) ⌝ }
+    ensures { λ r. ⌜ Fills (λ room. coreAsked room (tableReading (tableOf (now (losses .entry)) (now (editors .entry)) (now (times .entry)) (now (cells .entry)) (now (changes .entry)) seats bound rounds edits)) seat time) (now (out .entry)) r (now (out .exit)) ⌝ }
 {
-    if !judge_table(
+    let checked = check_table(
         losses,
         editors,
         times,
@@ -269,113 +175,12 @@ pub fn view_into_from<'a, 'b>(
         bound,
         rounds,
         edits,
-    ) {
-        return Given::Refused(Refusal::BadTable);
-    }
-    view_into_used(
-        losses,
-        Sizes {
-            seats,
-            bound,
-            rounds,
-        },
-        seat,
-        time,
-        out,
-    )
-}
-
-// The core of a place, into a lent buffer of at least n numbers.
-pub fn core_into_from<'a, 'b>(
-    losses: &'a [u16; 889],
-    editors: &'a [u8; 512],
-    times: &'a [u16; 512],
-    cells: &'a [u32; 512],
-    changes: &'a [i16; 512],
-    seats: u8,
-    bound: u8,
-    rounds: u16,
-    edits: u16,
-    seat: Seat,
-    time: Time,
-    out: &'b mut [i16],
-) -> Given
-    ensures { λ r.
-        ⌜ (r ≡ givenAnswer (coreAsked (buffer (length (now (out .entry)))) (tableReading (tableOf (now (losses .entry)) (now (editors .entry)) (now (times .entry)) (now (cells .entry)) (now (changes .entry)) seats bound rounds edits)) seat time))
-        × (now (out .exit) ≡ into (coreAsked (buffer (length (now (out .entry)))) (tableReading (tableOf (now (losses .entry)) (now (editors .entry)) (now (times .entry)) (now (cells .entry)) (now (changes .entry)) seats bound rounds edits)) seat time) (now (out .entry))) ⌝ }
-{
-    if !judge_table(
-        losses,
-        editors,
-        times,
-        cells,
-        changes,
-        seats,
-        bound,
-        rounds,
-        edits,
-    ) {
-        return Given::Refused(Refusal::BadTable);
-    }
-    core_into_used(
-        losses,
-        Sizes {
-            seats,
-            bound,
-            rounds,
-        },
-        seat,
-        time,
-        out,
-    )
-}
-
-// How many edits of the record so far are in the core of a place.
-pub fn count_from<'a>(
-    losses: &'a [u16; 889],
-    editors: &'a [u8; 512],
-    times: &'a [u16; 512],
-    cells: &'a [u32; 512],
-    changes: &'a [i16; 512],
-    seats: u8,
-    bound: u8,
-    rounds: u16,
-    edits: u16,
-    seat: Seat,
-    time: Time,
-) -> Count
-    ensures { λ r. ⌜ r ≡ countAnswer (countAsked (tableReading (tableOf (now (losses .entry)) (now (editors .entry)) (now (times .entry)) (now (cells .entry)) (now (changes .entry)) seats bound rounds edits)) seat time) ⌝ }
-{
-    if !judge_table(
-        losses,
-        editors,
-        times,
-        cells,
-        changes,
-        seats,
-        bound,
-        rounds,
-        edits,
-    ) {
-        return Count::Refused(Refusal::BadTable);
-    }
-    count_used(
-        losses,
-        editors,
-        times,
-        Sizes {
-            seats,
-            bound,
-            rounds,
-        },
-        edits,
-        seat,
-        time,
-    )
+    );
+    core_in(checked, losses, seat, time, out)
 }
 
 // Edit marks into a lent buffer of at least as many bytes as there are edits: 1 in the core, 0 outside.
-pub fn marks_from<'a, 'b>(
+pub fn marks_from<'a>(
     losses: &'a [u16; 889],
     editors: &'a [u8; 512],
     times: &'a [u16; 512],
@@ -387,13 +192,11 @@ pub fn marks_from<'a, 'b>(
     edits: u16,
     seat: Seat,
     time: Time,
-    out: &'b mut [u8],
+    out: &mut [u8],
 ) -> Given
-    ensures { λ r.
-        ⌜ (r ≡ givenAnswer (marksAsked (buffer (length (now (out .entry)))) (tableReading (tableOf (now (losses .entry)) (now (editors .entry)) (now (times .entry)) (now (cells .entry)) (now (changes .entry)) seats bound rounds edits)) seat time))
-        × (now (out .exit) ≡ into (marksAsked (buffer (length (now (out .entry)))) (tableReading (tableOf (now (losses .entry)) (now (editors .entry)) (now (times .entry)) (now (cells .entry)) (now (changes .entry)) seats bound rounds edits)) seat time) (now (out .entry))) ⌝ }
+    ensures { λ r. ⌜ Fills (λ room. marksAsked room (tableReading (tableOf (now (losses .entry)) (now (editors .entry)) (now (times .entry)) (now (cells .entry)) (now (changes .entry)) seats bound rounds edits)) seat time) (now (out .entry)) r (now (out .exit)) ⌝ }
 {
-    if !judge_table(
+    let checked = check_table(
         losses,
         editors,
         times,
@@ -403,21 +206,38 @@ pub fn marks_from<'a, 'b>(
         bound,
         rounds,
         edits,
-    ) {
-        return Given::Refused(Refusal::BadTable);
-    }
-    marks_used(
-        losses,
-        editors,
-        times,
-        Sizes {
-            seats,
-            bound,
-            rounds,
-        },
-        edits,
-        seat,
-        time,
+    );
+    marks_in(checked, losses, editors, times, seat, time, out)
+}
+
+fn write_used<'a, 'b>(
+    losses: &'a [u16],
+    editors: &'a [u8],
+    times: &'a [u16],
+    cells: &'a [u32],
+    changes: &'a [i16],
+    seats: u8,
+    bound: u8,
+    rounds: u16,
+    edits: u16,
+    out: &'b mut [u8],
+) -> Written
+    requires { ⌜ ArraysLong (now losses) (now editors) (now times) (now cells) (now changes) × (seats ≤ 7) × (rounds ≤ 127) × (edits ≤ 512) ⌝ }
+    ensures { λ r.
+        ⌜ (r ≡ writtenIn (writtenTo limits seats bound rounds (listsOf (take (seats * rounds) (now (losses .entry))) (take edits (now (editors .entry))) (take edits (now (times .entry))) (take edits (now (cells .entry))) (take edits (now (changes .entry)))) (length (now (out .entry)))))
+        × (now (out .exit) ≡ bufferAfter limits seats bound rounds (listsOf (take (seats * rounds) (now (losses .entry))) (take edits (now (editors .entry))) (take edits (now (times .entry))) (take edits (now (cells .entry))) (take edits (now (changes .entry)))) (now (out .entry))) ⌝ }
+{
+    let sets = seats as usize * rounds as usize;
+    let held = edits as usize;
+    write(
+        seats,
+        bound,
+        rounds,
+        &losses[..sets],
+        &editors[..held],
+        &times[..held],
+        &cells[..held],
+        &changes[..held],
         out,
     )
 }

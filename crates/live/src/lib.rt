@@ -7,4 +7,3 @@ mod checking; // checking.rt: whether the used part of a table is a good record
 pub mod lent; // lent.rt: questions on the parts of a table, lent one by one
 pub mod steps; // steps.rt: each call as a step by value
 pub mod table; // table.rt: the table itself
-mod used; // used.rt: questions on the used part of an accepted table's arrays

@@ -7,3 +7,4 @@ pub mod CoreLaws
 pub mod MarkLaws
 pub mod PlaceLaws
 pub mod RecordLaws
+pub mod CarriedLaws

@@ -35,36 +35,12 @@ use Rattle.record.proofs.ReadLaws.{Room, enough}
 use Rattle.record.proofs.WrittenAgain.{reading-again}
 use Rattle.record.proofs.WritingLaws.{lists-accepted}
 use Rattle.record.proofs.AcceptedLaws.{answer-accepted, answer-refused}
-use Rattle.questions.specs.declared.answers.Given.{Given}
 use Rattle.questions.specs.declared.answers.Given.the-variants.{Refused}
-use Rattle.questions.specs.Question.{Asked, refused, Lent, byValue, looking, onRecord, farmOfRecord, marksOf, countOf, settledIn}
-use Rattle.questions.specs.Accepted.{Accepted, marksOn, countOn}
-use Rattle.questions.specs.Answers.{givenAnswer, into}
+use Rattle.questions.specs.Question.{Lent, looking, farmOfRecord, marksOf, settledIn}
+use Rattle.questions.specs.Accepted.{Accepted, marksOn}
+use Rattle.questions.specs.Answers.{into}
 use Rattle.questions.specs.Reading.{lossesLeft, seatsLeft, timesLeft, sizesOf, lossCount}
-use Rattle.questions.proofs.MarkLaws.{marks-of-edits, count-of-edits}
-
--- ════ The record's refusal comes first ════
-
-module _ {A B : Type 0} (answer : Asked A → B) (reading : Reading) (ask : Record → Asked A) (r : B) where
-  pub answer-bad : (x : Refusal) → reading ≡ bad x → r ≡ answer (refused x) → r ≡ answer (onRecord reading ask)
-  unfolding onRecord
-  answer-bad x e f = rw e f
-
-  pub answer-good : (w : Record) (asked : Asked A) → reading ≡ good w → asked ≡ ask w → r ≡ answer asked → r ≡ answer (onRecord reading ask)
-  unfolding onRecord
-  answer-good w asked e same f = rw e (f ∙ ap answer same)
-
-module _ {A : Type 0} (reading : Reading) (ask : Record → Asked (List A)) (old : List A) where
-  pub buffer-bad : (x : Refusal) → reading ≡ bad x → (Refused x ≡ givenAnswer (onRecord reading ask)) × (old ≡ into (onRecord reading ask) old)
-  unfolding onRecord
-  buffer-bad x e = rw e (refl, refl)
-
-  pub buffer-good : (w : Record) (asked : Asked (List A)) (r : Given) (now : List A) → reading ≡ good w → asked ≡ ask w
-      → (r ≡ givenAnswer asked) × (now ≡ into asked old)
-      → (r ≡ givenAnswer (onRecord reading ask)) × (now ≡ into (onRecord reading ask) old)
-  unfolding onRecord
-  buffer-good w asked r now e same f =
-      rw e (f .0 ∙ ap givenAnswer same, f .1 ∙ ap (λ (a : Asked (List A)). into a old) same)
+use Rattle.questions.proofs.MarkLaws.{marks-of-edits}
 
 -- ════ A good record ════
 
@@ -90,13 +66,6 @@ module _ (w : Record) (seats times : List ℕ) (es : seatsOf (w .edits) ≡ seat
       rw (← es, ← et)
       (ap₂ (λ (f : Settled → List ℕ) (need : ℕ). looking f (settledIn lent need (farmOfRecord w) p ℓ))
       (fun-ext (λ s. sym (marks-of-edits (s .core) (w .edits)))) (length-seats (w .edits)))
-
-  pub count-asked : countOn (farmOfRecord w) seats times p ℓ ≡ looking (λ s. countOf (s .core) (w .edits)) (settledIn byValue 0 (farmOfRecord w) p ℓ)
-  unfolding countOn
-  count-asked =
-      rw (← es, ← et)
-      (ap (λ (f : Settled → ℕ). looking f (settledIn byValue 0 (farmOfRecord w) p ℓ))
-      (fun-ext (λ s. sym (count-of-edits (s .core) (w .edits)))))
 
 -- ════ As bytes ════
 

@@ -4,4 +4,5 @@ pub mod Marks
 pub mod Accepted
 pub mod Answers
 pub mod Reading
+pub mod Carried
 pub mod Examples

@@ -3,6 +3,7 @@
 // a record given as bytes, of one given as lists, and of one that is accepted already.
 pub mod answers; // answers.rt: what a question answers
 pub mod bytes; // bytes.rt: the questions on a record as bytes
+pub mod carried; // carried.rt: the questions on what a carrier hands on
 pub mod cores; // cores.rt: settled answers and cores of an accepted record
 pub mod lists; // lists.rt: the questions on a record as lists
 pub mod marks; // marks.rt: which edits of an accepted record are in a core

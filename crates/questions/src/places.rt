@@ -22,7 +22,7 @@ ghost use Rattle.questions.specs.Accepted.{Accepted};
 ghost use Rattle.questions.specs.Answers.{placeAnswer, noPlace};
 
 // A place that is refused.
-fn no_place(refusal: Refusal) -> Place
+pub fn no_place(refusal: Refusal) -> Place
     ensures { λ r. ⌜ r ≡ noPlace refusal ⌝ }
 {
     Place {

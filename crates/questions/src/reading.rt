@@ -1,5 +1,5 @@
-// What a question needs of a record's bytes: all of the record is read, and the loss sets, or these
-// with the places of the edits, stay in lent lists.
+// What a question needs of a record's bytes: all of it is read, and the loss sets and the places of the
+// edits stay in lent lists.
 use construction::sizes::Sizes;
 use record::header::Header;
 use record::read::Checked;
@@ -10,7 +10,8 @@ ghost use lib.ListN.{length};
 ghost use Rattle.farm.specs.Limits.{limits};
 ghost use Rattle.record.specs.Cursors.{checkedOf};
 ghost use Rattle.record.specs.Document.{readingOf};
-ghost use Rattle.questions.specs.Reading.{lossesLeft, seatsLeft, timesLeft, sizesOf, lossCount};
+ghost use Rattle.questions.specs.Carried.{Carried};
+ghost use Rattle.questions.specs.Reading.{lossesLeft, seatsLeft, timesLeft, sizesOf};
 
 // The loss sets, and the seats and times of the edits.
 pub fn read_places(
@@ -24,23 +25,12 @@ pub fn read_places(
         ⌜ (r ≡ checkedOf (readingOf (now (bytes .entry))))
         × (now (losses .exit) ≡ lossesLeft (readingOf (now (bytes .entry))) (now (losses .entry)))
         × (now (editors .exit) ≡ seatsLeft (readingOf (now (bytes .entry))) (now (editors .entry)))
-        × (now (times .exit) ≡ timesLeft (readingOf (now (bytes .entry))) (now (times .entry))) ⌝ }
+        × (now (times .exit) ≡ timesLeft (readingOf (now (bytes .entry))) (now (times .entry)))
+        × Carried (readingOf (now (bytes .entry))) r (now (losses .exit)) (now (editors .exit)) (now (times .exit)) ⌝ }
 {
     let mut cells: [u32; 512] = [0; 512];
     let mut changes: [i16; 512] = [0; 512];
     read(bytes, losses, editors, times, &mut cells, &mut changes)
-}
-
-// The loss sets alone.
-pub fn read_losses(bytes: &[u8], losses: &mut [u16]) -> Checked
-    requires { ⌜ limits .mostSeats * limits .mostRounds ≤ length (now losses) ⌝ }
-    ensures { λ r.
-        ⌜ (r ≡ checkedOf (readingOf (now (bytes .entry))))
-        × (now (losses .exit) ≡ lossesLeft (readingOf (now (bytes .entry))) (now (losses .entry))) ⌝ }
-{
-    let mut editors: [u8; 512] = [0; 512];
-    let mut times: [u16; 512] = [0; 512];
-    read_places(bytes, losses, &mut editors, &mut times)
 }
 
 pub fn sizes_in(header: Header) -> Sizes
@@ -51,11 +41,4 @@ pub fn sizes_in(header: Header) -> Sizes
         bound: header.bound,
         rounds: header.rounds,
     }
-}
-
-// How many loss sets the record has.
-pub fn loss_count(header: Header) -> usize
-    ensures { λ r. ⌜ r ≡ lossCount header ⌝ }
-{
-    header.seats as usize * header.rounds as usize
 }

@@ -1,11 +1,18 @@
--- `live::asks::core` meets its contract, by `Parts.antt`'s `ask-parts` over `core_from`.
+-- `live::asks::core` meets its contract, by `Parts.antt`'s `ask-parts-into` over `core_from`.
 -- Assumes nothing.
 use base.Logic.{id⊢}
-use Rattle.live.proofs.Handed.{none}
-use Rattle.live.proofs.Live.{a-struct, a-seat, a-time}
-use Rattle.live.proofs.Parts.{ask-parts, the-parts}
-use Rattle.questions.proofs.answers.Times as Times
-use Rattle.questions.proofs.answers.Times.Laws as Times′
+use denote.Builtin.{i16}
+use mathlib.Core.List.{[], _∷_}
+use mathlib.Core.Path.{refl}
+use mir.Syntax.{named, tyInt, w16}
+use Rattle.farm.proofs.places.Seat as Seat
+use Rattle.farm.proofs.places.Time as Time
+use Rattle.live.proofs.Changed.{lies}
+use Rattle.live.proofs.Handed.{none, lent}
+use Rattle.live.proofs.Live.{an-enum, a-seat, a-time}
+use Rattle.live.proofs.Parts.{ask-parts-into, the-parts}
+use Rattle.questions.proofs.answers.Given as Given
+use Rattle.questions.proofs.answers.Given.Laws as Given′
 use Rattle.live.proofs.asks.core as thin
 use Rattle.live.proofs.asks.core.Code as code
 use Rattle.live.proofs.asks.core.Key as key
@@ -17,6 +24,6 @@ use Rattle.live.proofs.lent.core_from.Symbol as step-def
 pub core-spec : {M : Type 1} → stated.statement M
 unfolding code.routine
 core-spec 𝓤 H 𝓜 𝓖 𝓡 =
-    ask-parts 𝓤 H 𝓜 𝓖 𝓡 code.env (a-seat (a-time none)) key.name step-def.name 3 step-def.routine code.calls-live·lent·core-from (the-parts 𝓤 H 𝓜 𝓖)
-    Times.the-row (a-struct Times.the-type Times′.the-laws) (thin.clauses 𝓤 H (𝓖 .A) (𝓜 .mem) (𝓡 .run)) (step.clauses 𝓤 H (𝓖 .A) (𝓜 .mem) (𝓡 .run))
-    record { ghost = λ κs a γs g. tt; asks = λ κs a γs g. id⊢ 𝓤 _; says = λ κs a γs g r ws. id⊢ 𝓤 _ } (step-met.met 𝓤 H 𝓜 𝓖 𝓡) (code.unfolded 𝓤 H 𝓜 𝓡)
+    ask-parts-into 𝓤 H 𝓜 𝓖 𝓡 code.env (a-seat (a-time (lent 0 tt i16 none))) key.name step-def.name 4 step-def.routine code.calls-live·lent·core-from (the-parts 𝓤 H 𝓜 𝓖)
+    Given.the-row (an-enum Given.the-type Given′.the-laws tt) (thin.clauses 𝓤 H (𝓖 .A) (𝓜 .mem) (𝓡 .run)) (step.clauses 𝓤 H (𝓖 .A) (𝓜 .mem) (𝓡 .run))
+    record { ghost = λ κs a γs g. tt; asks = λ κs a γs g. id⊢ 𝓤 _; says = λ κs a γs g r ws. id⊢ 𝓤 _ } (step-met.met 𝓤 H 𝓜 𝓖 𝓡) (lies Seat.the-type ∷ lies Time.the-type ∷ []) (named 1) (tyInt w16) refl (code.unfolded 𝓤 H 𝓜 𝓡)

@@ -1,37 +1,15 @@
--- `live::lent::view_from` meets its contract: 19, or the question on the used part.
+-- `live::lent::view_from` meets its contract: a carrier is its reading, then the accepted question.
 -- Assumes nothing.
+use Rattle.questions.proofs.CarriedLaws.{sized, view-carried, fills-alike}
 use borrow.Author.Needs.{needs}
-use mathlib.Core.Path.{sym, _∙_, ap}
-use native.Mathlib.Omega.{arith}
-use denote.Ref.{now}
-use borrow.Author.Tests.{not-true, not-false}
-use Rattle.questions.specs.Answers.{timesAnswer}
-use Rattle.questions.specs.Question.{farmOfRecord, viewIn, byValue}
-use Rattle.live.specs.Used.{tableOf, usedRecord}
-use Rattle.live.proofs.AskLaws.{asked-bad, asked-good, accepted-sizes}
 use Rattle.live.proofs.lent.view_from.Statement.{statement}
 use Rattle.live.proofs.lent.view_from.Tie as tie
 
-judge-table-requires : tie.Need-judge-table-requires
-judge-table-requires c κs = search needs
+view-in-requires : tie.Need-view-in-requires
+view-in-requires c κs = sized (c .before .before .check-table .ensures)
 
 returns : tie.Need-returns
-returns c =
-    let a = c .before .before .before .before .before .before .before .args in
-    ap timesAnswer (sym (asked-bad (tableOf (now (a .losses)) (now (a .editors)) (now (a .times)) (now (a .cells)) (now (a .changes)) (a .seats) (a .bound) (a .rounds) (a .edits)) (λ r. viewIn byValue (farmOfRecord r) (a .seat) (a .time)) (sym (c .before .judge-table .ensures) ∙ not-true _ (c .if1 .taken))))
-
-view-used-requires : tie.Need-view-used-requires
-view-used-requires c κs =
-    let s = c .before .before .before .before .before .before .before .before in
-    let a = s .args in
-    (accepted-sizes (tableOf (now (a .losses)) (now (a .editors)) (now (a .times)) (now (a .cells)) (now (a .changes)) (a .seats) (a .bound) (a .rounds) (a .edits)) (sym (c .before .before .judge-table .ensures) ∙ not-false _ (c .before .if1 .left)), omega arith)
-
-returns-2 : tie.Need-returns-2
-unfolding usedRecord
-returns-2 c =
-    let a = c .before .before .before .before .before .before .before .before .before .args in
-    c .view-used .ensures
-    ∙ ap timesAnswer (sym (asked-good (tableOf (now (a .losses)) (now (a .editors)) (now (a .times)) (now (a .cells)) (now (a .changes)) (a .seats) (a .bound) (a .rounds) (a .edits)) (λ r. viewIn byValue (farmOfRecord r) (a .seat) (a .time)) (sym (c .before .before .before .judge-table .ensures) ∙ not-false _ (c .before .before .if1 .left))))
+returns c = fills-alike (view-carried (c .before .before .before .before .check-table .ensures) _ _) (c .before .view-in .ensures)
 
 pub view-from-spec : {M : Type 1} → statement M
-view-from-spec = tie.close (tie.spec judge-table-requires returns view-used-requires returns-2)
+view-from-spec = tie.close (tie.spec (λ c κs. search needs) view-in-requires (λ c. search needs) returns)

@@ -1,40 +1,14 @@
--- `questions::lists::standing_of_lists` meets its contract: the lists' refusal, or the standing of the record that they are.
+-- `questions::lists::standing_of_lists` meets its contract: a carrier is its reading, then the accepted question.
 -- Assumes nothing.
-use Rattle.questions.proofs.RecordLaws.{lists-bad, lists-good, answer-bad, answer-good}
+use Rattle.questions.proofs.CarriedLaws.{standing-carried}
 use Rattle.questions.specs.Answers.{standingAnswer}
-use Rattle.record.specs.Answers.{listsOf}
-use Rattle.record.specs.Writing.{recordFrom}
-use mathlib.Core.Path.{refl}
-use denote.Ref.{now}
+use mathlib.Core.Path.{_∙_, ap}
 use borrow.Author.Needs.{needs}
 use Rattle.questions.proofs.lists.standing_of_lists.Statement.{statement}
 use Rattle.questions.proofs.lists.standing_of_lists.Tie as tie
 
-judge-requires : tie.Need-judge-requires
-judge-requires c κs = search needs
-
-enum-known-judged : tie.Need-enum-known-judged
-enum-known-judged c = search needs
-
-enum-told : tie.Need-enum-told
-enum-told c = search needs
-
-ask-standing-requires : tie.Need-ask-standing-requires
-ask-standing-requires c κs = search needs
-
 returns : tie.Need-returns
-returns c =
-    let at = c .before .before .before in
-    let a = at .before .before .before .before .before .args in
-    answer-bad standingAnswer _ _ _ _ (lists-bad (a .seats) (a .bound) (a .rounds) (listsOf (now (a .losses)) (now (a .editors)) (now (a .times)) (now (a .cells)) (now (a .changes))) (at .judge .result) (at .judge .ensures) _ (c .before .judged .given .1)) refl
-
-returns-2 : tie.Need-returns-2
-unfolding recordFrom
-returns-2 c =
-    let at = c .before .before .before in
-    let a = at .before .before .before .before .before .args in
-    let listed = lists-good (a .seats) (a .bound) (a .rounds) (listsOf (now (a .losses)) (now (a .editors)) (now (a .times)) (now (a .cells)) (now (a .changes))) (at .judge .result) (at .judge .ensures) (c .before .enum-told .given .1) in
-    answer-good standingAnswer _ _ _ _ _ (listed .is) refl (c .ask-standing .ensures)
+returns c = c .standing-in .ensures ∙ ap standingAnswer (standing-carried (c .before .check-lists .ensures) _)
 
 pub standing-of-lists-spec : {M : Type 1} → statement M
-standing-of-lists-spec = tie.close (tie.spec judge-requires enum-known-judged enum-told ask-standing-requires returns returns-2)
+standing-of-lists-spec = tie.close (tie.spec (λ c κs. search needs) (λ c κs. search needs) returns)

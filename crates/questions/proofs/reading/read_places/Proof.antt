@@ -1,6 +1,8 @@
 -- `questions::reading::read_places` meets its contract: the lists have room, so the record's own refusal is the only one.
 -- Assumes nothing.
 use Rattle.questions.proofs.RecordLaws.{places-left}
+use Rattle.questions.proofs.CarriedLaws.{bytes-carried}
+use native.Mathlib.Omega.{arith}
 use borrow.Author.Needs.{needs}
 use Rattle.questions.proofs.reading.read_places.Statement.{statement}
 use Rattle.questions.proofs.reading.read_places.Tie as tie
@@ -27,9 +29,11 @@ returns : tie.Need-returns
 returns c =
     let at = c .before .before .before .before .before .before .before .before in
     let pre = at .before .before .before .before .before .before .before .before .before .before .pre in
+    let left =
     places-left _ _ _ _
     (record { losses = pre .0; seats = pre .1; times = pre .2; cells = search needs; changes = search needs })
-    (at .read .ensures)
+    (at .read .ensures) in
+    (left .0, left .1, left .2, left .3, bytes-carried _ _ _ _ _ _ _ _ (λ i. omega (arith, at .before .before .before .before .before .before .before .before .before .shared-slice-known .given i)) left)
 
 pub read-places-spec : {M : Type 1} → statement M
 read-places-spec =
