@@ -1,9 +1,9 @@
 // What a seat is told about a record, for a host in C. The record is given as bytes, and the answer goes into
 // a lent buffer, which stays as it was where the question is refused.
 use crate::codes::given_number;
+use carriers::bytes::core_of_bytes;
 use farm::places::Seat;
 use farm::places::Time;
-use questions::bytes::core_of_bytes;
 ghost use mathlib.Core.Path.{_≡_};
 ghost use lib.ListN.{length};
 ghost use Rattle.record.specs.Document.{readingOf};

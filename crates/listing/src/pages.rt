@@ -21,7 +21,7 @@ ghost use Rattle.farm.specs.Limits.{limits};
 ghost use Rattle.construction.specs.Counts.{farmFor};
 ghost use Rattle.record.specs.Document.{readingOf};
 ghost use Rattle.questions.specs.Accepted.{Accepted};
-ghost use Rattle.questions.specs.Reading.{sizesOf};
+ghost use Rattle.carriers.specs.Loading.{sizesOf};
 ghost use Rattle.page.specs.Lines.{headerLine};
 ghost use Rattle.page.specs.Printing.{Puts};
 ghost use Rattle.listing.specs.Page.{linesOf, numbersOf, pageOf};

@@ -10,7 +10,7 @@ use Rattle.farm.specs.declared.refusals.Refusal.the-variants.{BadTable}
 use Rattle.record.specs.Cursors.{checkedOf}
 use Rattle.record.specs.Good.{goodRecord}
 use Rattle.record.specs.declared.read.Checked.the-variants.{Good, Refused}
-use Rattle.questions.specs.Carried.{Holds, Carried}
+use Rattle.carriers.specs.Carried.{Holds, Carried}
 use Rattle.live.specs.declared.table.Table.{Table}
 use Rattle.live.specs.Used.{usedRecord, tableReading}
 use Rattle.live.proofs.AskLaws.{reading-good, reads-bad, columns}

@@ -10,8 +10,8 @@ use crate::lent::write_from;
 use crate::table::Table;
 use farm::places::Seat;
 use farm::places::Time;
+use questions::answers::Agreed;
 use questions::answers::Given;
-use questions::answers::Place;
 use questions::answers::Seen;
 use questions::answers::Standing;
 use record::writing::Written;
@@ -21,7 +21,7 @@ ghost use Rattle.farm.specs.Limits.{limits};
 ghost use Rattle.record.specs.Answers.{writtenIn};
 ghost use Rattle.record.specs.Writing.{answered, bufferWith};
 ghost use Rattle.questions.specs.Question.{viewAsked, coreAsked, marksAsked, loserAsked};
-ghost use Rattle.questions.specs.Carried.{seenAsked, agreedAsked};
+ghost use Rattle.questions.specs.Answers.{seenAsked, agreedAsked};
 ghost use Rattle.questions.specs.Answers.{Fills, standingAnswer};
 ghost use Rattle.live.specs.Used.{tableReading};
 
@@ -45,7 +45,7 @@ pub fn seen(table: &Table, seat: Seat, time: Time) -> Seen
 }
 
 // What is agreed at a place: critical time, kept set, steps, the core and how many edits are in it.
-pub fn agreed(table: &Table, seat: Seat, time: Time) -> Place
+pub fn agreed(table: &Table, seat: Seat, time: Time) -> Agreed
     ensures { λ r. ⌜ r ≡ agreedAsked (tableReading (now (table .entry))) seat time ⌝ }
 {
     agreed_from(

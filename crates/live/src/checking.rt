@@ -8,7 +8,7 @@ use record::read::Checked;
 ghost use mathlib.Core.Path.{_≡_};
 ghost use Rattle.farm.specs.Limits.{limits};
 ghost use Rattle.record.specs.Good.{goodRecord};
-ghost use Rattle.questions.specs.Carried.{Carried};
+ghost use Rattle.carriers.specs.Carried.{Carried};
 ghost use Rattle.live.specs.Used.{usedRecord, tableReading, tableOf, ArraysLong};
 
 pub fn judge_table<'a>(

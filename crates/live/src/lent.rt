@@ -2,19 +2,19 @@
 // table by value asks here.
 use crate::checking::check_table;
 use crate::checking::judge_table;
+use carriers::carried::agreed_in;
+use carriers::carried::core_in;
+use carriers::carried::marks_in;
+use carriers::carried::seen_in;
+use carriers::carried::standing_in;
+use carriers::carried::view_in;
 use farm::places::Seat;
 use farm::places::Time;
 use farm::refusals::Refusal;
+use questions::answers::Agreed;
 use questions::answers::Given;
-use questions::answers::Place;
 use questions::answers::Seen;
 use questions::answers::Standing;
-use questions::carried::agreed_in;
-use questions::carried::core_in;
-use questions::carried::marks_in;
-use questions::carried::seen_in;
-use questions::carried::standing_in;
-use questions::carried::view_in;
 use record::writing::Written;
 use record::writing::write;
 ghost use mathlib.Core.Path.{_≡_};
@@ -24,7 +24,7 @@ ghost use Rattle.farm.specs.Limits.{limits};
 ghost use Rattle.record.specs.Answers.{listsOf, writtenIn};
 ghost use Rattle.record.specs.Writing.{answered, bufferWith, writtenTo, bufferAfter};
 ghost use Rattle.questions.specs.Question.{viewAsked, coreAsked, marksAsked, loserAsked};
-ghost use Rattle.questions.specs.Carried.{seenAsked, agreedAsked};
+ghost use Rattle.questions.specs.Answers.{seenAsked, agreedAsked};
 ghost use Rattle.questions.specs.Answers.{Fills, standingAnswer};
 ghost use Rattle.live.specs.Used.{tableReading, tableOf, ArraysLong};
 
@@ -71,7 +71,7 @@ pub fn agreed_from<'a>(
     edits: u16,
     seat: Seat,
     time: Time,
-) -> Place
+) -> Agreed
     ensures { λ r. ⌜ r ≡ agreedAsked (tableReading (tableOf (now (losses .entry)) (now (editors .entry)) (now (times .entry)) (now (cells .entry)) (now (changes .entry)) seats bound rounds edits)) seat time ⌝ }
 {
     let checked = check_table(

@@ -7,6 +7,8 @@ use lib.IntN.{ℤ, pos, negsuc}
 use lib.ListN.{length, drop, replicate}
 use Rattle.farm.specs.Limits.{limits}
 use Rattle.farm.specs.Sets.{Seats}
+use Rattle.farm.specs.declared.places.Seat.{Seat}
+use Rattle.farm.specs.declared.places.Time.{Time}
 use Rattle.farm.specs.declared.refusals.Refusal.{Refusal}
 use Rattle.knowledge.specs.Settled as rules
 use Rattle.knowledge.specs.Views.{latestTimes}
@@ -16,9 +18,10 @@ use Rattle.questions.specs.declared.answers.Standing.the-variants as sta
 use Rattle.questions.specs.declared.answers.Given.{Given}
 use Rattle.questions.specs.declared.answers.Given.the-variants as given
 use Rattle.questions.specs.declared.answers.Seen.{Seen}
-use Rattle.questions.specs.declared.answers.Place.{Place}
+use Rattle.questions.specs.declared.answers.Agreed.{Agreed}
 use Rattle.questions.specs.Marks.{countIn}
-use Rattle.questions.specs.Question.{Asked, found, refused, Lent, buffer}
+use Rattle.record.specs.Record.{Reading}
+use Rattle.questions.specs.Question.{Asked, found, refused, Lent, byValue, buffer, viewAsked, knownAsked, settledAsked, coreAsked, countAsked}
 
 -- ════ Answers that are numbers ════
 
@@ -58,8 +61,8 @@ noTimes = replicate (limits .mostSeats) (negsuc 0)
 
 -- ════ All of a place at once ════
 
-abbrev pub noPlace : Refusal → Place
-noPlace refusal =
+abbrev pub noneAgreed : Refusal → Agreed
+noneAgreed refusal =
     record {
       given = given.Refused refusal;
       summary = record { critical = pos 0; kept = 0; steps = 0 };
@@ -68,15 +71,15 @@ noPlace refusal =
     }
 
 -- The settled answer of a record of n seats, its core as by value, and how many of the edits at these places are in it.
-unfoldable pub placeAnswer : (n : ℕ) (seats times : List ℕ) → Asked rules.Settled → Place
-placeAnswer n seats times (found s) =
+unfoldable pub agreedFrom : (n : ℕ) (seats times : List ℕ) → Asked rules.Settled → Agreed
+agreedFrom n seats times (found s) =
     record {
       given = given.Done;
       summary = summaryOf s;
       latest = laid (latestTimes n (s .core)) noTimes;
       count = countIn (s .core) seats times;
     }
-placeAnswer n seats times (refused refusal) = noPlace refusal
+agreedFrom n seats times (refused refusal) = noneAgreed refusal
 
 -- A number, or 0 beside a refusal.
 abbrev pub orNone : Asked ℕ → ℕ
@@ -88,9 +91,19 @@ summaryOr (found s) = summaryOf s
 summaryOr (refused refusal) = record { critical = pos 0; kept = 0; steps = 0 }
 
 -- What is agreed: each part as its own question answers.
-abbrev pub agreedAnswer : Asked rules.Settled → Asked (List ℤ) → Asked ℕ → Place
+abbrev pub agreedAnswer : Asked rules.Settled → Asked (List ℤ) → Asked ℕ → Agreed
 agreedAnswer settled core count =
     record { given = givenAnswer settled; summary = summaryOr settled; latest = into core noTimes; count = orNone count }
 
 abbrev pub seenAnswer : Asked (List ℤ) → Asked Seats → Seen
 seenAnswer view known = record { given = givenAnswer view; latest = into view noTimes; known = orNone known }
+
+-- ════ On a record ════
+
+-- What is agreed: the settled answer, its core, and how many edits are in it.
+abbrev pub agreedAsked : Reading → Seat → Time → Agreed
+agreedAsked reading p ℓ = agreedAnswer (settledAsked reading p ℓ) (coreAsked byValue reading p ℓ) (countAsked reading p ℓ)
+
+-- What a seat has seen: its view, and the known set.
+abbrev pub seenAsked : Reading → Seat → Time → Seen
+seenAsked reading p ℓ = seenAnswer (viewAsked byValue reading p ℓ) (knownAsked reading p ℓ)

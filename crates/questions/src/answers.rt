@@ -32,7 +32,7 @@ pub struct Seen {
 
 // What the page says of a place: the settled answer, the core as in `Seen`, and how many edits are in
 // it. Beside a refusal the summary and the count are 0, and the times are all -1.
-pub struct Place {
+pub struct Agreed {
     pub given: Given,
     pub summary: Summary,
     pub latest: [i16; 7],

@@ -48,7 +48,7 @@ pub fn ask_view_into(losses: &[u16], sizes: Sizes, seat: Seat, time: Time, out: 
 }
 
 // A view that is refused.
-pub fn no_seen(refusal: Refusal) -> Seen
+pub fn none_seen(refusal: Refusal) -> Seen
     ensures { λ r. ⌜ r ≡ seenAnswer (refused refusal) (refused refusal) ⌝ }
 {
     Seen {
@@ -64,7 +64,7 @@ pub fn ask_seen(losses: &[u16], sizes: Sizes, seat: Seat, time: Time) -> Seen
     ensures { λ r. ⌜ r ≡ seenAnswer (viewIn byValue (farmFor sizes (now (losses .entry))) seat time) (knownIn (farmFor sizes (now (losses .entry))) seat time) ⌝ }
 {
     if !is_place(sizes, seat, time) {
-        return no_seen(Refusal::NoSuchPlace);
+        return none_seen(Refusal::NoSuchPlace);
     }
     let view = view_of(losses, sizes, seat, time);
     let mut latest: [i16; 7] = [-1; 7];

@@ -4,8 +4,8 @@ use base.Logic.{id⊢}
 use Rattle.live.proofs.Handed.{none}
 use Rattle.live.proofs.Live.{a-struct, a-seat, a-time}
 use Rattle.live.proofs.Parts.{ask-parts, the-parts}
-use Rattle.questions.proofs.answers.Place as Place
-use Rattle.questions.proofs.answers.Place.Laws as Place′
+use Rattle.questions.proofs.answers.Agreed as Agreed
+use Rattle.questions.proofs.answers.Agreed.Laws as Agreed′
 use Rattle.live.proofs.asks.agreed as thin
 use Rattle.live.proofs.asks.agreed.Code as code
 use Rattle.live.proofs.asks.agreed.Key as key
@@ -18,5 +18,5 @@ pub agreed-spec : {M : Type 1} → stated.statement M
 unfolding code.routine
 agreed-spec 𝓤 H 𝓜 𝓖 𝓡 =
     ask-parts 𝓤 H 𝓜 𝓖 𝓡 code.env (a-seat (a-time none)) key.name step-def.name 3 step-def.routine code.calls-live·lent·agreed-from (the-parts 𝓤 H 𝓜 𝓖)
-    Place.the-row (a-struct Place.the-type Place′.the-laws) (thin.clauses 𝓤 H (𝓖 .A) (𝓜 .mem) (𝓡 .run)) (step.clauses 𝓤 H (𝓖 .A) (𝓜 .mem) (𝓡 .run))
+    Agreed.the-row (a-struct Agreed.the-type Agreed′.the-laws) (thin.clauses 𝓤 H (𝓖 .A) (𝓜 .mem) (𝓡 .run)) (step.clauses 𝓤 H (𝓖 .A) (𝓜 .mem) (𝓡 .run))
     record { ghost = λ κs a γs g. tt; asks = λ κs a γs g. id⊢ 𝓤 _; says = λ κs a γs g r ws. id⊢ 𝓤 _ } (step-met.met 𝓤 H 𝓜 𝓖 𝓡) (code.unfolded 𝓤 H 𝓜 𝓡)

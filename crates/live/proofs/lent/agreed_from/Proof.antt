@@ -1,6 +1,6 @@
 -- `live::lent::agreed_from` meets its contract: a carrier is its reading, then the accepted question.
 -- Assumes nothing.
-use Rattle.questions.proofs.CarriedLaws.{loaded, agreed-carried}
+use Rattle.carriers.proofs.CarriedLaws.{loaded, agreed-carried}
 use mathlib.Core.Path.{_∙_}
 use borrow.Author.Needs.{needs}
 use Rattle.live.proofs.lent.agreed_from.Statement.{statement}

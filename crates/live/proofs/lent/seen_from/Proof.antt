@@ -1,6 +1,6 @@
 -- `live::lent::seen_from` meets its contract: a carrier is its reading, then the accepted question.
 -- Assumes nothing.
-use Rattle.questions.proofs.CarriedLaws.{sized, seen-carried}
+use Rattle.carriers.proofs.CarriedLaws.{sized, seen-carried}
 use mathlib.Core.Path.{_∙_}
 use borrow.Author.Needs.{needs}
 use Rattle.live.proofs.lent.seen_from.Statement.{statement}

@@ -1,6 +1,6 @@
 -- `live::lent::standing_from` meets its contract: a carrier is its reading, then the accepted question.
 -- Assumes nothing.
-use Rattle.questions.proofs.CarriedLaws.{standing-carried}
+use Rattle.carriers.proofs.CarriedLaws.{standing-carried}
 use Rattle.questions.specs.Answers.{standingAnswer}
 use mathlib.Core.Path.{_∙_, ap}
 use borrow.Author.Needs.{needs}

@@ -23,7 +23,7 @@ returns : tie.Need-returns
 unfolding isPlace
 returns c =
     let e = sym (c .before .before .is-place .ensures) ∙ not-true _ (c .before .if1 .taken) in
-    c .no-seen .ensures ∙ ap₂ seenAnswer (sym (view-nowhere _ _ _ byValue e)) (sym (known-nowhere _ _ _ e))
+    c .none-seen .ensures ∙ ap₂ seenAnswer (sym (view-nowhere _ _ _ byValue e)) (sym (known-nowhere _ _ _ e))
 
 view-of-requires : tie.Need-view-of-requires
 unfolding isPlace
