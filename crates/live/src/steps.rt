@@ -2,7 +2,7 @@
 // back the table as it came. A host that holds its table by value calls these.
 use crate::answers::Done;
 use crate::answers::Step;
-use crate::checking::judge_table;
+use crate::sound::judge_table;
 use crate::table::Table;
 use farm::limits::FEWEST_SEATS;
 use farm::limits::LARGEST_CELL;
