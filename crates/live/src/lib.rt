@@ -1,5 +1,6 @@
 // The live table: a farm's record while it is played. The host keeps one table in its memory, and every
 // call tests it before it adds to it.
+mod answering; // answering.rt: the tests of a round and of an edit, in their order
 pub mod answers; // answers.rt: what a call answers
 pub mod calls; // calls.rt: the calls on a `&mut` to the table
 pub mod sound; // sound.rt: whether the used part of a table is a good record

@@ -1,4 +1,4 @@
--- `live::steps::last_held` meets its contract: none of no edits, and else the one at the last place.
+-- `live::answering::last_held` meets its contract: none of no edits, and else the one at the last place.
 -- Assumes nothing.
 use borrow.Author.Needs.{needs}
 use mathlib.Core.Path.{_∙_, ap}
@@ -7,8 +7,8 @@ use denote.Ref.{now}
 use Rattle.record.specs.declared.edits.Before.the-variants.{This}
 use Rattle.record.proofs.JudgingLaws.{change-kept}
 use Rattle.live.proofs.StepLaws.{last-of-none, last-of-some}
-use Rattle.live.proofs.steps.last_held.Statement.{statement}
-use Rattle.live.proofs.steps.last_held.Tie as tie
+use Rattle.live.proofs.answering.last_held.Statement.{statement}
+use Rattle.live.proofs.answering.last_held.Tie as tie
 
 returns : tie.Need-returns
 returns c =
