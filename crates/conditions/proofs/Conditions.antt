@@ -2,8 +2,9 @@
 -- Assumes nothing.
 use Rattle.knowledge.proofs.Promises.{view-is-computed, known-of-a-place-is-computed, outcome-is-computed, core-is-computed, steps-are-counted}
 use Rattle.record.proofs.Promises.{refused-exactly-for-its-fault, lists-refused-exactly-for-their-fault, refused-writing-leaves-the-buffer, written-lists-read-back, read-record-is-written-again}
-use Rattle.questions.proofs.Examples.{examples-hold}
-use Rattle.live.proofs.Promises.{table-refused-exactly-when-not-good, refused-call-leaves-the-table, good-table-answers-as-its-record, run-keeps-the-record, run-answers-as-the-record}
+use Rattle.examples.proofs.Examples.{examples-hold}
+use Rattle.live.proofs.Promises.{table-refused-exactly-when-not-good, refused-call-leaves-the-table, run-keeps-the-record}
+use Rattle.live_questions.proofs.Promises.{good-table-answers-as-its-record, run-answers-as-the-record}
 use Rattle.conditions.specs.Conditions.{Conditions}
 use Rattle.conditions.proofs.Honest.{honest-seats-are-told-alike, seen-edits-are-agreed}
 

@@ -3,8 +3,9 @@
 -- laws of completeness in each crate.
 use Rattle.knowledge.specs.Promises.{View-is-computed, Known-of-a-place-is-computed, Outcome-is-computed, Core-is-computed, Steps-are-counted}
 use Rattle.record.specs.Promises.{Refused-exactly-for-its-fault, Lists-refused-exactly-for-their-fault, Refused-writing-leaves-the-buffer, Written-lists-read-back, Read-record-is-written-again}
-use Rattle.questions.specs.Examples.{Examples-hold}
-use Rattle.live.specs.Promises.{Table-refused-exactly-when-not-good, Refused-call-leaves-the-table, Good-table-answers-as-its-record, Run-keeps-the-record, Run-answers-as-the-record}
+use Rattle.examples.specs.Examples.{Examples-hold}
+use Rattle.live.specs.Promises.{Table-refused-exactly-when-not-good, Refused-call-leaves-the-table, Run-keeps-the-record}
+use Rattle.live_questions.specs.Promises.{Good-table-answers-as-its-record, Run-answers-as-the-record}
 use Rattle.conditions.specs.Honest.{Honest-seats-are-told-alike, Seen-edits-are-agreed}
 
 -- Bad input of any kind is refused by document 01's numbers, in its order, and a refusal changes nothing.

@@ -1,4 +1,4 @@
--- Every public function of the crate states its outcome completely: the answer, the table that it leaves, and every lent byte.
+-- Every public function of the crate states its outcome completely: the answer, and the table that it leaves.
 -- Assumes nothing.
 use mathlib.Core.Path.{_≡_}
 use Rattle.farm.proofs.Complete.{Complete, by-facts}
@@ -6,29 +6,13 @@ use Rattle.live.specs.declared.answers.Step.{Step}
 use Rattle.live.proofs.calls.open as open′
 use Rattle.live.proofs.calls.add_round as add-round
 use Rattle.live.proofs.calls.add_edit as add-edit
-use Rattle.live.proofs.asks.known as known
-use Rattle.live.proofs.asks.settled as settled
-use Rattle.live.proofs.asks.standing as standing
-use Rattle.live.proofs.asks.view as view
-use Rattle.live.proofs.asks.core as core
-use Rattle.live.proofs.asks.view_into as view-into
-use Rattle.live.proofs.asks.core_into as core-into
-use Rattle.live.proofs.asks.count as count
-use Rattle.live.proofs.asks.marks as marks
-use Rattle.live.proofs.asks.write_out as write-out
+use Rattle.live.proofs.sound.judge_table as judge-table
 use Rattle.live.proofs.steps.opened as opened
 use Rattle.live.proofs.steps.with_round as with-round
 use Rattle.live.proofs.steps.with_edit as with-edit
-use Rattle.live.proofs.lent.known_from as known-from
-use Rattle.live.proofs.lent.settled_from as settled-from
-use Rattle.live.proofs.lent.standing_from as standing-from
-use Rattle.live.proofs.lent.view_from as view-from
-use Rattle.live.proofs.lent.core_from as core-from
-use Rattle.live.proofs.lent.view_into_from as view-into-from
-use Rattle.live.proofs.lent.core_into_from as core-into-from
-use Rattle.live.proofs.lent.count_from as count-from
-use Rattle.live.proofs.lent.marks_from as marks-from
-use Rattle.live.proofs.lent.write_from as write-from
+
+pub judge-table-complete : Complete judge-table.ended (λ M. judge-table.clauses {M = M})
+judge-table-complete M 𝓤 H A mem run κs a g r s v w = by-facts M 𝓤 _ _ _ (λ p q. (cc, cc))
 
 -- ════ On the host's table ════
 
@@ -40,36 +24,6 @@ add-round-complete M 𝓤 H A mem run κs a g r s v w = by-facts M 𝓤 _ _ _ (�
 
 pub add-edit-complete : Complete add-edit.ended (λ M. add-edit.clauses {M = M})
 add-edit-complete M 𝓤 H A mem run κs a g r s v w = by-facts M 𝓤 _ _ _ (λ p q. (cc, cc))
-
-pub known-complete : Complete known.ended (λ M. known.clauses {M = M})
-known-complete M 𝓤 H A mem run κs a g r s v w = by-facts M 𝓤 _ _ _ (λ p q. (cc, cc))
-
-pub settled-complete : Complete settled.ended (λ M. settled.clauses {M = M})
-settled-complete M 𝓤 H A mem run κs a g r s v w = by-facts M 𝓤 _ _ _ (λ p q. (cc, cc))
-
-pub standing-complete : Complete standing.ended (λ M. standing.clauses {M = M})
-standing-complete M 𝓤 H A mem run κs a g r s v w = by-facts M 𝓤 _ _ _ (λ p q. (cc, cc))
-
-pub view-complete : Complete view.ended (λ M. view.clauses {M = M})
-view-complete M 𝓤 H A mem run κs a g r s v w = by-facts M 𝓤 _ _ _ (λ p q. (cc, cc))
-
-pub core-complete : Complete core.ended (λ M. core.clauses {M = M})
-core-complete M 𝓤 H A mem run κs a g r s v w = by-facts M 𝓤 _ _ _ (λ p q. (cc, cc))
-
-pub view-into-complete : Complete view-into.ended (λ M. view-into.clauses {M = M})
-view-into-complete M 𝓤 H A mem run κs a g r s v w = by-facts M 𝓤 _ _ _ (λ p q. (cc, cc))
-
-pub core-into-complete : Complete core-into.ended (λ M. core-into.clauses {M = M})
-core-into-complete M 𝓤 H A mem run κs a g r s v w = by-facts M 𝓤 _ _ _ (λ p q. (cc, cc))
-
-pub count-complete : Complete count.ended (λ M. count.clauses {M = M})
-count-complete M 𝓤 H A mem run κs a g r s v w = by-facts M 𝓤 _ _ _ (λ p q. (cc, cc))
-
-pub marks-complete : Complete marks.ended (λ M. marks.clauses {M = M})
-marks-complete M 𝓤 H A mem run κs a g r s v w = by-facts M 𝓤 _ _ _ (λ p q. (cc, cc))
-
-pub write-out-complete : Complete write-out.ended (λ M. write-out.clauses {M = M})
-write-out-complete M 𝓤 H A mem run κs a g r s v w = by-facts M 𝓤 _ _ _ (λ p q. (cc, cc))
 
 -- ════ On a table by value ════
 
@@ -84,33 +38,3 @@ with-round-complete M 𝓤 H A mem run κs a g r s v w = by-facts M 𝓤 _ _ _ (
 
 pub with-edit-complete : Complete with-edit.ended (λ M. with-edit.clauses {M = M})
 with-edit-complete M 𝓤 H A mem run κs a g r s v w = by-facts M 𝓤 _ _ _ (λ p q. (same-step r s (cc) (cc), cc))
-
-pub known-from-complete : Complete known-from.ended (λ M. known-from.clauses {M = M})
-known-from-complete M 𝓤 H A mem run κs a g r s v w = by-facts M 𝓤 _ _ _ (λ p q. (cc, cc))
-
-pub settled-from-complete : Complete settled-from.ended (λ M. settled-from.clauses {M = M})
-settled-from-complete M 𝓤 H A mem run κs a g r s v w = by-facts M 𝓤 _ _ _ (λ p q. (cc, cc))
-
-pub standing-from-complete : Complete standing-from.ended (λ M. standing-from.clauses {M = M})
-standing-from-complete M 𝓤 H A mem run κs a g r s v w = by-facts M 𝓤 _ _ _ (λ p q. (cc, cc))
-
-pub view-from-complete : Complete view-from.ended (λ M. view-from.clauses {M = M})
-view-from-complete M 𝓤 H A mem run κs a g r s v w = by-facts M 𝓤 _ _ _ (λ p q. (cc, cc))
-
-pub core-from-complete : Complete core-from.ended (λ M. core-from.clauses {M = M})
-core-from-complete M 𝓤 H A mem run κs a g r s v w = by-facts M 𝓤 _ _ _ (λ p q. (cc, cc))
-
-pub view-into-from-complete : Complete view-into-from.ended (λ M. view-into-from.clauses {M = M})
-view-into-from-complete M 𝓤 H A mem run κs a g r s v w = by-facts M 𝓤 _ _ _ (λ p q. (cc, cc))
-
-pub core-into-from-complete : Complete core-into-from.ended (λ M. core-into-from.clauses {M = M})
-core-into-from-complete M 𝓤 H A mem run κs a g r s v w = by-facts M 𝓤 _ _ _ (λ p q. (cc, cc))
-
-pub count-from-complete : Complete count-from.ended (λ M. count-from.clauses {M = M})
-count-from-complete M 𝓤 H A mem run κs a g r s v w = by-facts M 𝓤 _ _ _ (λ p q. (cc, cc))
-
-pub marks-from-complete : Complete marks-from.ended (λ M. marks-from.clauses {M = M})
-marks-from-complete M 𝓤 H A mem run κs a g r s v w = by-facts M 𝓤 _ _ _ (λ p q. (cc, cc))
-
-pub write-from-complete : Complete write-from.ended (λ M. write-from.clauses {M = M})
-write-from-complete M 𝓤 H A mem run κs a g r s v w = by-facts M 𝓤 _ _ _ (λ p q. (cc, cc))

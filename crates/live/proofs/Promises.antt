@@ -12,15 +12,14 @@ use Rattle.record.specs.Writing.{Verdict, accepted, faulty}
 use Rattle.record.proofs.Promises.{document-numbers-fit}
 use Rattle.record.proofs.ReadBack.{reading-back}
 use Rattle.record.proofs.TakenGood.{reading-taken}
-use Rattle.questions.specs.Question.{onRecord}
 use Rattle.live.specs.declared.answers.Done.the-variants.{Refused}
 use Rattle.live.specs.declared.table.Table.{Table}
 use Rattle.live.specs.Answers.{doneOf}
 use Rattle.live.specs.Calls.{added, keptOr, answerTo, tableAfter}
 use Rattle.live.specs.Used.{usedRecord, tableReading}
-use Rattle.live.specs.Promises.{Table-refused-exactly-when-not-good, Table-passes-exactly-when-it-reads-back, Good-table-answers-as-its-record, Refused-call-leaves-the-table, Calls-have-a-run, Run-keeps-the-record, Run-answers-as-the-record}
+use Rattle.live.specs.Promises.{Table-refused-exactly-when-not-good, Table-passes-exactly-when-it-reads-back, Refused-call-leaves-the-table, Calls-have-a-run, Run-keeps-the-record}
 use Rattle.live.proofs.RunLaws as runs
-use Rattle.live.proofs.AskLaws.{reading-good, reads-bad}
+use Rattle.live.proofs.UsedLaws.{reading-good, reads-bad}
 
 -- ════ Refusal 19 ════
 
@@ -32,7 +31,7 @@ failed : (b : Bool) (r : Record) → cond b (good r) (bad BadTable) ≡ bad BadT
 failed true r e = let z : _≡_ {A = ℕ} 0 1 = cc in absurd (omega arith)
 failed false r e = refl
 
-passes : (table : Table) (r : Record) → tableReading table ≡ good r → (goodRecord limits (usedRecord table) ≡ true) × (r ≡ usedRecord table)
+pub passes : (table : Table) (r : Record) → tableReading table ≡ good r → (goodRecord limits (usedRecord table) ≡ true) × (r ≡ usedRecord table)
 unfolding tableReading
 passes table r e = tested (goodRecord limits (usedRecord table)) (usedRecord table) r e
 
@@ -45,9 +44,6 @@ table-passes-exactly-when-it-reads-back table = (
   λ e. reading-back limits document-numbers-fit (usedRecord table) (passes table (usedRecord table) e .0),
   λ e. reading-good table (reading-taken limits (bytesOf limits (usedRecord table)) (usedRecord table) e),
 )
-
-pub good-table-answers-as-its-record : Good-table-answers-as-its-record
-good-table-answers-as-its-record table r e = (passes table r e .1, λ A ask. rw e)
 
 -- ════ Condition 2: the live table ════
 
@@ -64,9 +60,3 @@ calls-have-a-run = runs.calls-have-a-run
 
 pub run-keeps-the-record : Run-keeps-the-record
 run-keeps-the-record = runs.run-keeps-the-record
-
-pub run-answers-as-the-record : Run-answers-as-the-record
-unfolding onRecord
-run-answers-as-the-record calls before answers after r run e =
-    let reads = run-keeps-the-record calls before answers after r run e .0 in
-    (λ A ask. rw reads, λ room. rw reads, λ old. rw reads)

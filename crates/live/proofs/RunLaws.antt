@@ -26,7 +26,7 @@ use Rattle.live.specs.Answers.{doneOf, Ends}
 use Rattle.live.specs.Runs.{Run, stop, step, Told, nothing, told, recorded, recordedIf, recordOfAll}
 use Rattle.live.specs.Promises.{Calls-have-a-run, Run-keeps-the-record}
 use Rattle.live.proofs.ListLaws.{used-over, edits-from-append, cut-full}
-use Rattle.live.proofs.AskLaws.{reading-good}
+use Rattle.live.proofs.UsedLaws.{reading-good}
 use Rattle.live.proofs.GoodSteps.{AllPass, all-pass, opened-good, round-good, edit-good}
 
 -- ════ Used parts ════

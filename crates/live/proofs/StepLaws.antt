@@ -1,6 +1,6 @@
 -- What each test of the code on a table decides: one law for each way that a call ends.
 -- Assumes nothing.
-use mathlib.Core.Path.{_≡_, refl, sym, _∙_, subst}
+use mathlib.Core.Path.{_≡_, refl, sym, _∙_, ap, subst}
 use mathlib.Core.Bool.{Bool, true, false, _&&_}
 use mathlib.Core.List.{List, [], _∷_, _++_}
 use Prim.Native.Nat.{ℕ, zero, suc, _+_, _-_, _*_, _^_, _≤_, _<_}
@@ -12,7 +12,7 @@ use lib.ListN.{length, take, getD, set}
 use lib.Seq.{length-take-le, take-suc}
 use mir.Syntax.{w16}
 use mir.Val.{SFits}
-use borrow.Author.Tests.{le-ltb, lt-ltb}
+use borrow.Author.Tests.{le-ltb, lt-ltb, ltb-true, eqb-true}
 use Rattle.farm.specs.Limits.{limits}
 use Rattle.farm.specs.Sets.{Seats}
 use Rattle.farm.specs.declared.places.Seat.{Seat}
@@ -26,7 +26,7 @@ use Rattle.record.specs.Faults.{lastOf}
 use Rattle.record.specs.Good.{goodHeader, goodEdit, goodRecord}
 use Rattle.record.specs.Record.{Record, good, bad}
 use Rattle.record.specs.Tables.{Tables, over, editOf, editsFrom}
-use Rattle.record.specs.Writing.{accepted, faulty, unless, headerFrom, fitting, judgedEdits, recordFrom, judgedLists, judged, checkedLists}
+use Rattle.record.specs.Writing.{Verdict, accepted, faulty, unless, headerFrom, fitting, judgedEdits, recordFrom, judgedLists, judged, checkedLists}
 use Rattle.record.specs.declared.edits.Before.{Before}
 use Rattle.record.specs.declared.edits.Before.the-variants.{Nothing, This}
 use Rattle.record.specs.declared.edits.Edit.{Edit}
@@ -34,13 +34,15 @@ use Rattle.record.proofs.AcceptedLaws.{checked-good}
 use Rattle.record.proofs.ColumnLaws.{columns-from-edits}
 use Rattle.record.proofs.GoodLaws.{header-facts, header-from-facts, edit-facts, edit-from-facts, record-facts}
 use Rattle.record.proofs.WritingLaws.{lists-accepted, good-lists-accepted}
-use Rattle.live.specs.declared.answers.Done.the-variants.{Accepted}
+use Rattle.live.specs.declared.answers.Done.{Done}
+use Rattle.live.specs.declared.answers.Done.the-variants.{Accepted, Refused}
 use Rattle.live.specs.declared.answers.Step.{Step}
 use Rattle.live.specs.declared.table.Table.{Table}
 use Rattle.live.specs.Answers.{doneOf, refusing, Ends}
 use Rattle.live.specs.Calls.{Call, opening, round, edit, emptyHeader, presentEdit, round11, round10, round4, edit3, edit12, edit5, testsOf, firstFailing, Held, added, keptOr, answerTo, tableAfter}
 use Rattle.live.specs.Used.{ArraysLong, tableOf, usedRecord}
 use Rattle.live.proofs.ListLaws.{edits-from-append, over-one}
+use Rattle.live.proofs.GoodSteps.{all-pass}
 
 -- ════ Refusal 19 ════
 
@@ -299,3 +301,46 @@ module _ (call : Call) (table : Table) where
       → Ends call table Accepted after
   unfolding doneOf tableAfter keptOr
   accepted-step after e v = rw v (refl, e)
+
+-- ════ What the tests answer ════
+
+module _ (call : Call) (table : Table) where
+  pub answers-refused : (refusal : Refusal) → answerTo call table ≡ faulty refusal → Refused refusal ≡ doneOf (answerTo call table)
+  unfolding doneOf
+  answers-refused refusal v = rw v
+
+  pub answers-accepted : answerTo call table ≡ accepted → Accepted ≡ doneOf (answerTo call table)
+  unfolding doneOf
+  answers-accepted v = rw v
+
+  pub was-refused : (d : Done) (refusal : Refusal) → d ≡ doneOf (answerTo call table) → d ≡ Refused refusal → answerTo call table ≡ faulty refusal
+  unfolding doneOf
+  was-refused d refusal e f = by (answerTo call table) (sym e ∙ f)
+    where
+      by : (v : Verdict) → doneOf v ≡ Refused refusal → v ≡ faulty refusal
+      by accepted g = let z : _≡_ {A = ℕ} 0 1 = cc in absurd (omega arith)
+      by (faulty other) g = let same : other ≡ refusal = cc in ap faulty same
+
+  pub was-accepted : (d : Done) → d ≡ doneOf (answerTo call table) → d ≡ Accepted → answerTo call table ≡ accepted
+  unfolding doneOf
+  was-accepted d e f = by (answerTo call table) (sym e ∙ f)
+    where
+      by : (v : Verdict) → doneOf v ≡ Accepted → v ≡ accepted
+      by accepted g = refl
+      by (faulty other) g = let z : _≡_ {A = ℕ} 0 1 = cc in absurd (omega arith)
+
+-- What is accepted has room in the arrays.
+pub round-has-room : (sets : List Seats) (table : Table) → answerTo (round sets) table ≡ accepted
+    → (table .seats * table .rounds + length sets ≤ 889) × (table .rounds < 127)
+unfolding answerTo testsOf usedRecord
+round-has-room sets table v =
+    let p = all-pass _ v in
+    let f = header-facts limits _ (record-facts limits (usedRecord table) (p .0) .header) in
+    let early = ltb-true (table .rounds) 127 (p .1 .0) in
+    let long = eqb-true (length sets) (table .seats) (p .1 .1 .0) in
+    let small : table .seats * (table .rounds + 1) ≤ 889 = sets-fit _ _ (f .most) (omega arith) in
+    (omega arith, early)
+
+pub edit-has-room : (seat : Seat) (cell : ℕ) (change : ℤ) (table : Table) → answerTo (edit seat cell change) table ≡ accepted → table .edits < 512
+unfolding answerTo testsOf usedRecord
+edit-has-room seat cell change table v = let p = all-pass _ v in ltb-true (table .edits) 512 (p .1 .1 .0)

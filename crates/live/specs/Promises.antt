@@ -3,14 +3,11 @@ use mathlib.Core.Path.{_≡_}
 use mathlib.Core.Logic.{_↔_}
 use mathlib.Core.Bool.{false}
 use mathlib.Core.List.{List}
-use Prim.Native.Nat.{ℕ}
 use Rattle.farm.specs.Limits.{limits}
 use Rattle.farm.specs.declared.refusals.Refusal.{Refusal}
 use Rattle.farm.specs.declared.refusals.Refusal.the-variants.{BadTable}
 use Rattle.record.specs.Good.{goodRecord}
 use Rattle.record.specs.Record.{Record, good, bad, readingOf, bytesOf}
-use Rattle.record.specs.Writing.{answered, bufferWith}
-use Rattle.questions.specs.Question.{Asked, onRecord}
 use Rattle.live.specs.declared.answers.Done.{Done}
 use Rattle.live.specs.declared.answers.Done.the-variants.{Refused}
 use Rattle.live.specs.declared.table.Table.{Table}
@@ -33,12 +30,6 @@ Table-passes-exactly-when-it-reads-back =
     → (tableReading table ≡ good (usedRecord table))
     ↔ (readingOf limits (bytesOf limits (usedRecord table)) ≡ good (usedRecord table))
 
--- A table that passes, however it came to be, reads as its used part and nothing else, and so answers every question as that record.
-abbrev pub Good-table-answers-as-its-record : Type 1
-Good-table-answers-as-its-record =
-    (table : Table) (r : Record) → tableReading table ≡ good r
-    → (r ≡ usedRecord table) × ((A : Type 0) (ask : Record → Asked A) → onRecord (tableReading table) ask ≡ onRecord (good r) ask)
-
 -- ════ Condition 2: the live table ════
 
 -- A refused call of any kind leaves every entry of the table.
@@ -57,12 +48,3 @@ Run-keeps-the-record =
     (calls : List Call) (before : Table) (answers : List Done) (after : Table) (r : Record)
     → Run calls before answers after → recordOfAll calls answers nothing ≡ told r
     → (tableReading after ≡ good r) × (usedRecord after ≡ r)
-
--- So every question asked of the table after such a run, and the writing of it, is answered as of that record.
-abbrev pub Run-answers-as-the-record : Type 1
-Run-answers-as-the-record =
-    (calls : List Call) (before : Table) (answers : List Done) (after : Table) (r : Record)
-    → Run calls before answers after → recordOfAll calls answers nothing ≡ told r
-    → ((A : Type 0) (ask : Record → Asked A) → onRecord (tableReading after) ask ≡ ask r)
-    × ((room : ℕ) → answered limits (tableReading after) room ≡ answered limits (good r) room)
-    × ((old : List ℕ) → bufferWith limits (tableReading after) old ≡ bufferWith limits (good r) old)

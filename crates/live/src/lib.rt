@@ -1,10 +1,8 @@
 // The live table: a farm's record while it is played. The host keeps one table in its memory, and every
-// call tests it before it answers or adds to it.
+// call tests it before it adds to it.
+mod answering; // answering.rt: the tests of a round and of an edit, in their order
 pub mod answers; // answers.rt: what a call answers
-pub mod asks; // asks.rt: questions on a `&` to the table
 pub mod calls; // calls.rt: the calls on a `&mut` to the table
-mod checking; // checking.rt: whether the used part of a table is a good record
-pub mod lent; // lent.rt: questions on the parts of a table, lent one by one
+pub mod sound; // sound.rt: whether the used part of a table is a good record
 pub mod steps; // steps.rt: each call as a step by value
 pub mod table; // table.rt: the table itself
-mod used; // used.rt: questions on the used part of an accepted table's arrays

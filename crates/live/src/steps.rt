@@ -1,34 +1,19 @@
 // Each call as a step that takes the table by value and hands it back beside the answer. A refusal hands
 // back the table as it came. A host that holds its table by value calls these.
+use crate::answering::answer_edit;
+use crate::answering::answer_round;
 use crate::answers::Done;
 use crate::answers::Step;
-use crate::checking::judge_table;
 use crate::table::Table;
 use farm::limits::FEWEST_SEATS;
-use farm::limits::LARGEST_CELL;
-use farm::limits::MOST_EDITS;
-use farm::limits::MOST_ROUNDS;
 use farm::limits::MOST_SEATS;
 use farm::places::Seat;
-use farm::places::Time;
 use farm::refusals::Refusal;
-use record::edits::Before;
-use record::edits::Edit;
-use record::edits::comes_after;
-use record::answers::Judged;
-use judging::lists::judge;
 ghost use mathlib.Core.Path.{_≡_};
-ghost use Prim.Native.Nat.{_+_, _≤_};
-ghost use lib.ListN.{length, take};
-ghost use mathlib.Core.List.{[]};
-ghost use Rattle.farm.specs.Limits.{limits};
-ghost use Rattle.record.specs.Writing.{listsOf};
-ghost use Rattle.record.specs.Answers.{judgedIn};
-ghost use Rattle.record.specs.Faults.{lastOf};
-ghost use Rattle.record.specs.Tables.{over, editsFrom};
-ghost use Rattle.record.specs.Writing.{judgedLists};
-ghost use Rattle.record.specs.declared.edits.Before.the-variants.{Nothing};
-ghost use Rattle.live.specs.Calls.{opening, round, edit, Held};
+ghost use Prim.Native.Nat.{_+_, _*_, _≤_, _<_};
+ghost use lib.ListN.{length};
+ghost use Rattle.record.specs.Tables.{over};
+ghost use Rattle.live.specs.Calls.{opening, round, edit, Held, added};
 ghost use Rattle.live.specs.Answers.{Ends, refusing};
 
 // An opening: 3, or a record with no rounds and no edits. Nothing else in the table is touched.
@@ -76,143 +61,86 @@ fn put_sets(losses: &mut [u16], at: usize, sets: &[u16])
     }
 }
 
-// A round's sets, judged as those of a record of one round and no edits.
-fn judge_round(seats: u8, bound: u8, sets: &[u16]) -> Judged
-    ensures { λ r. ⌜ r ≡ judgedIn (judgedLists limits seats bound 1 (listsOf (now (sets .entry)) [] [] [] [])) ⌝ }
+// The round goes behind the ones held.
+fn put_round(table: Table, sets: &[u16]) -> Table
+    requires { ⌜ (table .seats * table .rounds + length (now sets) ≤ 889) × (table .rounds < 127) × (length (table .losses) ≡ 889) ⌝ }
+    ensures { λ r. ⌜ r ≡ added (round (now (sets .entry))) table ⌝ }
 {
-    let bytes: [u8; 1] = [0; 1];
-    let shorts: [u16; 1] = [0; 1];
-    let words: [u32; 1] = [0; 1];
-    let heights: [i16; 1] = [0; 1];
-    judge(
-        seats,
-        bound,
-        1,
+    let mut losses = table.losses;
+    put_sets(
+        &mut losses,
+        table.seats as usize * table.rounds as usize,
         sets,
-        &bytes[..0],
-        &shorts[..0],
-        &words[..0],
-        &heights[..0],
-    )
+    );
+    let mut next = table;
+    next.losses = losses;
+    next.rounds = table.rounds + 1;
+    next
 }
 
-// A round: 19, 11, 10, 4. Its sets are judged as those of a record of one round, and go behind the ones held.
+// A round: 19, 11, 10, 4.
 pub fn with_round(table: Table, sets: &[u16]) -> Step
     ensures { λ r. ⌜ Ends (round (now (sets .entry))) table (r .answer) (r .table) ⌝ }
 {
-    let seats = table.seats;
-    let bound = table.bound;
-    let done = table.rounds;
-    let edits = table.edits;
-    if !judge_table(
+    let done = answer_round(
         &table.losses,
         &table.editors,
         &table.times,
         &table.cells,
         &table.changes,
-        seats,
-        bound,
-        done,
-        edits,
-    ) {
-        return refused(table, Refusal::BadTable);
-    }
-    if MOST_ROUNDS <= done as u32 {
-        return refused(table, Refusal::RoundsFull);
-    }
-    let judged = judge_round(seats, bound, sets);
-    if let Judged::Refused(refusal) = judged {
-        return refused(table, refusal);
-    }
-    let mut losses = table.losses;
-    put_sets(&mut losses, seats as usize * done as usize, sets);
-    let mut next = table;
-    next.losses = losses;
-    next.rounds = done + 1;
-    Step {
-        answer: Done::Accepted,
-        table: next,
+        table.seats,
+        table.bound,
+        table.rounds,
+        table.edits,
+        sets,
+    );
+    match done {
+        Done::Refused(refusal) => refused(table, refusal),
+        Done::Accepted => Step {
+            answer: Done::Accepted,
+            table: put_round(table, sets),
+        },
     }
 }
 
-// The last of so many edits, which the next one has to come after.
-fn last_held<'a>(
-    editors: &'a [u8],
-    times: &'a [u16],
-    cells: &'a [u32],
-    changes: &'a [i16],
-    held: usize,
-) -> Before
-    requires { ⌜ Held held (now editors) (now times) (now cells) (now changes) ⌝ }
-    ensures { λ r. ⌜ r ≡ lastOf Nothing (editsFrom (take held (now (editors .entry))) (take held (now (times .entry))) (take held (now (cells .entry))) (take held (now (changes .entry)))) ⌝ }
+// The edit goes behind the ones held, at the present time.
+fn put_edit(table: Table, seat: Seat, cell: u32, change: i16) -> Table
+    requires { ⌜ (table .edits < 512) × Held (table .edits + 1) (table .editors) (table .times) (table .cells) (table .changes) ⌝ }
+    ensures { λ r. ⌜ r ≡ added (edit seat cell change) table ⌝ }
 {
-    if held == 0 {
-        return Before::Nothing;
-    }
-    let at = held - 1;
-    Before::This(Edit {
-        seat: Seat(editors[at]),
-        time: Time(times[at]),
-        cell: cells[at],
-        change: changes[at],
-    })
+    let at = table.edits as usize;
+    let mut next = table;
+    next.editors[at] = seat.0;
+    next.times[at] = table.rounds;
+    next.cells[at] = cell;
+    next.changes[at] = change;
+    next.edits = table.edits + 1;
+    next
 }
 
-// An edit: 19, 3, 12, 5. It is placed at the present time, and goes behind the ones held.
+// An edit: 19, 3, 12, 5.
 pub fn with_edit(table: Table, seat: Seat, cell: u32, change: i16) -> Step
     ensures { λ r. ⌜ Ends (edit seat cell change) table (r .answer) (r .table) ⌝ }
 {
-    let seats = table.seats;
-    let bound = table.bound;
-    let rounds = table.rounds;
-    let edits = table.edits;
-    if !judge_table(
+    let done = answer_edit(
         &table.losses,
         &table.editors,
         &table.times,
         &table.cells,
         &table.changes,
-        seats,
-        bound,
-        rounds,
-        edits,
-    ) {
-        return refused(table, Refusal::BadTable);
-    }
-    if seats <= seat.0 {
-        return refused(table, Refusal::OutOfRange);
-    }
-    if LARGEST_CELL < cell {
-        return refused(table, Refusal::OutOfRange);
-    }
-    if MOST_EDITS <= edits as u32 {
-        return refused(table, Refusal::EditsFull);
-    }
-    let at = edits as usize;
-    let new = Edit {
-        seat: seat,
-        time: Time(rounds),
-        cell: cell,
-        change: change,
-    };
-    let before = last_held(
-        &table.editors,
-        &table.times,
-        &table.cells,
-        &table.changes,
-        at,
+        table.seats,
+        table.bound,
+        table.rounds,
+        table.edits,
+        seat,
+        cell,
+        change,
     );
-    if !comes_after(before, new) {
-        return refused(table, Refusal::BadOrder);
-    }
-    let mut next = table;
-    next.editors[at] = seat.0;
-    next.times[at] = rounds;
-    next.cells[at] = cell;
-    next.changes[at] = change;
-    next.edits = edits + 1;
-    Step {
-        answer: Done::Accepted,
-        table: next,
+    match done {
+        Done::Refused(refusal) => refused(table, refusal),
+        Done::Accepted => Step {
+            answer: Done::Accepted,
+            table: put_edit(table, seat, cell, change),
+        },
     }
 }

@@ -18,10 +18,10 @@ use Rattle.knowledge.specs.Settled.{Settled, Outcome, overBound, settled, settl
 use Rattle.viewing.specs.Counts.{room, counts}
 use Rattle.construction.specs.KnownSets.{knownSets}
 use Rattle.viewing.proofs.ViewSteps.{counts-at}
-use Rattle.questions.specs.Answers.{laid, noTimes, placeAnswer}
+use Rattle.questions.specs.Answers.{laid, noTimes, agreedFrom}
 use Rattle.questions.specs.Question.{byValue, isPlace, ofOutcome, settledIn}
 use Rattle.questions.specs.declared.answers.Given.{Given}
-use Rattle.questions.specs.declared.answers.Place.{Place}
+use Rattle.questions.specs.declared.answers.Agreed.{Agreed}
 use Rattle.questions.proofs.AskLaws.{settled-valued}
 use Rattle.questions.proofs.TimeLaws.{length-times}
 use Rattle.lines.specs.Digits.{Text}
@@ -43,7 +43,7 @@ printed-put {text} {at} {end} {old} {printed = printed} room p e =
     (record { end = ends; bytes = rw fits at (p .bytes) }, omega arith)
 
 -- Of the times past n none is printed.
-core-alone : (n : ℕ) (place : Place) (s : Settled) (ℓ : Time) (p : Seat) (loser : Bool)
+core-alone : (n : ℕ) (place : Agreed) (s : Settled) (ℓ : Time) (p : Seat) (loser : Bool)
     → place .latest ≡ laid (latestTimes n (s .core)) noTimes
     → placeLine (lineFrom place n ℓ p loser)
     ≡ placeLine (record {
@@ -69,19 +69,19 @@ unfolding isPlace
 is-place farm p ℓ here early = rw (lt-ltb (p .0) (farm .seats) here, le-leb (ℓ .0) (farm .rounds) early)
 
 -- The line of what was asked of a place is the place's line.
-pub line-at : (farm : Farm) (seats times : List ℕ) (lost : Seats) (ℓ : Time) (p : Seat) (place : Place) → lost ≡ losers farm → p .0 < farm .seats
-    → ℓ .0 ≤ farm .rounds → place ≡ placeAnswer (farm .seats) seats times (settledIn byValue 0 farm p ℓ)
+pub line-at : (farm : Farm) (seats times : List ℕ) (lost : Seats) (ℓ : Time) (p : Seat) (place : Agreed) → lost ≡ losers farm → p .0 < farm .seats
+    → ℓ .0 ≤ farm .rounds → place ≡ agreedFrom (farm .seats) seats times (settledIn byValue 0 farm p ℓ)
     → lineIn place (farm .seats) ℓ p (bit lost (p .0)) ≡ lineAt farm (countFrom seats times) ℓ p
-unfolding lineAt lineOf lineGiven placeAnswer ofOutcome countFrom
+unfolding lineAt lineOf lineGiven agreedFrom ofOutcome countFrom
 line-at farm seats times lost ℓ p place all here early e =
-    rw all (by (outcomeOf farm p ℓ) (e ∙ ap (placeAnswer (farm .seats) seats times) (settled-valued farm p ℓ 0 (is-place farm p ℓ here early))))
+    rw all (by (outcomeOf farm p ℓ) (e ∙ ap (agreedFrom (farm .seats) seats times) (settled-valued farm p ℓ 0 (is-place farm p ℓ here early))))
   where
-    by : (o : Outcome) → place ≡ placeAnswer (farm .seats) seats times (ofOutcome o)
+    by : (o : Outcome) → place ≡ agreedFrom (farm .seats) seats times (ofOutcome o)
         → lineIn place (farm .seats) ℓ p (bit (losers farm) (p .0)) ≡ lineOf farm (countFrom seats times) ℓ p o
     by overBound f = rw f
     by (settled s) f =
-        ap (λ (g : Given). lineGiven g (lineFrom place (farm .seats) ℓ p (bit (losers farm) (p .0)))) (ap (λ (x : Place). x .given) f)
-        ∙ core-alone (farm .seats) place s ℓ p (bit (losers farm) (p .0)) (ap (λ (x : Place). x .latest) f)
+        ap (λ (g : Given). lineGiven g (lineFrom place (farm .seats) ℓ p (bit (losers farm) (p .0)))) (ap (λ (x : Agreed). x .given) f)
+        ∙ core-alone (farm .seats) place s ℓ p (bit (losers farm) (p .0)) (ap (λ (x : Agreed). x .latest) f)
         ∙ rw f
 
 -- ════ Seats with one known set ════
@@ -93,13 +93,13 @@ same-settled farm ℓ p q hp hq early e =
     ∙ ap (λ (known : Seats). ofOutcome (settle farm (ℓ .0) known)) e
     ∙ sym (settled-valued farm q ℓ 0 (is-place farm q ℓ hq early))
 
-pub same-place : (farm : Farm) (seats times sets : List ℕ) (ℓ : Time) (p q : Seat) (place : Place) → farm .seats ≤ room
+pub same-place : (farm : Farm) (seats times sets : List ℕ) (ℓ : Time) (p q : Seat) (place : Agreed) → farm .seats ≤ room
     → p .0 < farm .seats → q .0 < farm .seats → ℓ .0 ≤ farm .rounds → sets ≡ counts (farm .seats) (knownSets farm ℓ)
     → getD sets (p .0) 0 ≡ getD sets (q .0) 0
-    → place ≡ placeAnswer (farm .seats) seats times (settledIn byValue 0 farm p ℓ)
-    → place ≡ placeAnswer (farm .seats) seats times (settledIn byValue 0 farm q ℓ)
+    → place ≡ agreedFrom (farm .seats) seats times (settledIn byValue 0 farm p ℓ)
+    → place ≡ agreedFrom (farm .seats) seats times (settledIn byValue 0 farm q ℓ)
 unfolding knownSets
 same-place farm seats times sets ℓ p q place small hp hq early e same f =
     let known : (s : Seat) → s .0 < farm .seats → getD sets (s .0) 0 ≡ knownOf farm s ℓ =
     λ s h. rw e (counts-at (farm .seats) (knownSets farm ℓ) (s .0) small h) in
-    f ∙ ap (placeAnswer (farm .seats) seats times) (same-settled farm ℓ p q hp hq early (sym (known p hp) ∙ same ∙ known q hq))
+    f ∙ ap (agreedFrom (farm .seats) seats times) (same-settled farm ℓ p q hp hq early (sym (known p hp) ∙ same ∙ known q hq))

@@ -23,9 +23,9 @@ use Rattle.record.proofs.ColumnLaws.{length-seats, length-times}
 use Rattle.reading.proofs.ReadLaws.{Room}
 use Rattle.questions.specs.Accepted.{Accepted}
 use Rattle.questions.specs.Question.{countOf, farmOfRecord}
-use Rattle.questions.specs.Reading.{sizesOf}
+use Rattle.carriers.specs.Loading.{sizesOf}
 use Rattle.questions.proofs.MarkLaws.{count-of-edits}
-use Rattle.questions.proofs.RecordLaws.{bytes-bad, bytes-good, listed-few, places-left, read-count, read-edits, read-farm, read-seats, read-sizes, read-times}
+use Rattle.carriers.proofs.RecordLaws.{bytes-bad, bytes-good, listed-few, places-left, read-count, read-edits, read-farm, read-seats, read-sizes, read-times}
 use Rattle.lines.specs.Digits.{Text}
 use Rattle.lines.specs.Lines.{headerLine, refusedLine}
 use Rattle.lines.specs.Printing.{Puts, Prints}

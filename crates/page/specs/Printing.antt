@@ -13,12 +13,12 @@ use Rattle.knowledge.specs.Farm.{losers}
 use Rattle.viewing.specs.Counts.{farmFor}
 use Rattle.viewing.specs.declared.sizes.Sizes.{Sizes}
 use Rattle.questions.specs.Accepted.{Accepted}
-use Rattle.questions.specs.Answers.{placeAnswer}
+use Rattle.questions.specs.Answers.{agreedFrom}
 use Rattle.questions.specs.Marks.{countIn}
 use Rattle.questions.specs.Question.{byValue, settledIn}
 use Rattle.questions.specs.declared.answers.Given.{Given}
 use Rattle.questions.specs.declared.answers.Given.the-variants.{Done, Refused}
-use Rattle.questions.specs.declared.answers.Place.{Place}
+use Rattle.questions.specs.declared.answers.Agreed.{Agreed}
 use Rattle.lines.specs.Digits.{Text}
 use Rattle.lines.specs.Lines.{placeLine, overLine}
 use Rattle.lines.specs.Printing.{lineRoom, written}
@@ -60,7 +60,7 @@ unfoldable pub countFrom : (seats times : List ℕ) → Counting
 countFrom seats times core = countIn core seats times
 
 -- The numbers of a line, from what was asked of its place.
-abbrev pub lineFrom : Place → (seats : ℕ) → Time → Seat → Bool → PlaceLine
+abbrev pub lineFrom : Agreed → (seats : ℕ) → Time → Seat → Bool → PlaceLine
 lineFrom place seats time seat loser =
     record {
       time = time;
@@ -78,12 +78,12 @@ unfoldable pub lineGiven : Given → PlaceLine → Text
 lineGiven Done line = placeLine line
 lineGiven (Refused refusal) line = overLine (line .time) (line .seat) (line .loser)
 
-abbrev pub lineIn : Place → (seats : ℕ) → Time → Seat → Bool → Text
+abbrev pub lineIn : Agreed → (seats : ℕ) → Time → Seat → Bool → Text
 lineIn place seats time seat loser = lineGiven (place .given) (lineFrom place seats time seat loser)
 
 -- What is asked of a place of the record.
-abbrev pub placeOf : Sizes → (losses seats times : List ℕ) → Seat → Time → Place
-placeOf sizes losses seats times p ℓ = placeAnswer (sizes .seats) seats times (settledIn byValue 0 (farmFor sizes losses) p ℓ)
+abbrev pub placeOf : Sizes → (losses seats times : List ℕ) → Seat → Time → Agreed
+placeOf sizes losses seats times p ℓ = agreedFrom (sizes .seats) seats times (settledIn byValue 0 (farmFor sizes losses) p ℓ)
 
 -- Where a line ends; of no line, which has no end, any number will do.
 abbrev pub endIn : Printed → ℕ

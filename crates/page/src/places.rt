@@ -11,8 +11,8 @@ use lines::printing::Printed;
 use lines::printing::over_line;
 use lines::printing::place_line;
 use questions::answers::Given;
-use questions::answers::Place;
-use questions::places::ask_place;
+use questions::answers::Agreed;
+use questions::agreed::ask_agreed;
 ghost use mathlib.Core.Path.{_≡_};
 ghost use Prim.Native.Nat.{suc, _+_, _≤_, _<_};
 ghost use lib.ListN.{length};
@@ -36,7 +36,7 @@ pub fn end_of(printed: Printed) -> usize
 }
 
 // The numbers of the line of a place that is not refused.
-fn line_of(place: Place, seats: u8, time: Time, seat: Seat, loser: bool) -> PlaceLine
+fn line_of(place: Agreed, seats: u8, time: Time, seat: Seat, loser: bool) -> PlaceLine
     ensures { λ r. ⌜ r ≡ lineFrom place seats time seat loser ⌝ }
 {
     let summary = place.summary;
@@ -55,7 +55,7 @@ fn line_of(place: Place, seats: u8, time: Time, seat: Seat, loser: bool) -> Plac
 
 // The line of a seat at a time, from what was asked of its place.
 fn put_line(
-    place: Place,
+    place: Agreed,
     seats: u8,
     losers: u16,
     time: Time,
@@ -85,11 +85,11 @@ fn next_place<'a>(
     times: &'a [u16],
     sizes: Sizes,
     known: KnownSets,
-    place: Place,
+    place: Agreed,
     before: Seat,
     seat: Seat,
     time: Time,
-) -> Place
+) -> Agreed
     requires { ⌜ Accepted sizes × (length (now times) ≡ length (now editors)) × (length (now editors) ≤ limits .mostEdits) ⌝ }
     requires { ⌜ (before .0 < sizes .seats) × (seat .0 < sizes .seats) × (time .0 ≤ sizes .rounds) ⌝ }
     requires { ⌜ known .of ≡ counts (sizes .seats) (knownSets (farmFor sizes (now losses)) time) ⌝ }
@@ -102,7 +102,7 @@ fn next_place<'a>(
     if set_before == set {
         return place;
     }
-    ask_place(losses, editors, times, sizes, seat, time)
+    ask_agreed(losses, editors, times, sizes, seat, time)
 }
 
 // The lines of a time, seat by seat.
@@ -123,7 +123,7 @@ fn put_seats<'a>(
 {
     let seats = sizes.seats;
     let known = known_sets(losses, sizes, time);
-    let mut place = ask_place(losses, editors, times, sizes, Seat(0), time);
+    let mut place = ask_agreed(losses, editors, times, sizes, Seat(0), time);
     let mut before: u8 = 0;
     let mut end = at;
     for seat in 0..seats {

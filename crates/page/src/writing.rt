@@ -21,7 +21,7 @@ ghost use Rattle.farm.specs.Limits.{limits};
 ghost use Rattle.viewing.specs.Counts.{farmFor};
 ghost use Rattle.record.specs.Document.{readingOf};
 ghost use Rattle.questions.specs.Accepted.{Accepted};
-ghost use Rattle.questions.specs.Reading.{sizesOf};
+ghost use Rattle.carriers.specs.Loading.{sizesOf};
 ghost use Rattle.lines.specs.Lines.{headerLine};
 ghost use Rattle.lines.specs.Printing.{Puts};
 ghost use Rattle.page.specs.Page.{linesOf, numbersOf, pageOf};

@@ -1,6 +1,8 @@
 -- The order of a question's refusals on an accepted record: each test decides, or leaves the rest to decide.
 -- Assumes nothing.
-use mathlib.Core.Path.{_≡_}
+use mathlib.Core.Path.{_≡_, refl}
+use mathlib.Core.List.{List}
+use lib.IntN.{ℤ}
 use mathlib.Core.Bool.{Bool, true, false, _&&_}
 use Prim.Native.Nat.{ℕ, suc, _<_, _≤_}
 use native.Mathlib.Omega.{arith}
@@ -16,6 +18,9 @@ use Rattle.knowledge.specs.Known.{knownOf}
 use Rattle.knowledge.specs.Settled.{outcomeOf}
 use Rattle.knowledge.proofs.ViewLaws.{le-of-below}
 use Rattle.knowledge.proofs.ViewTheory.{view-past}
+use Rattle.questions.specs.declared.answers.Given.the-variants.{Done}
+use Rattle.questions.specs.declared.answers.Seen.{Seen}
+use Rattle.questions.specs.Answers.{laid, noTimes, seenAnswer}
 use Rattle.questions.specs.Question.{found, refused, Lent, byValue, buffer, fits, isPlace, provided, ofOutcome, viewIn, knownIn, settledIn, loserIn}
 
 -- ════ 8 ════
@@ -48,10 +53,9 @@ module _ (farm : Farm) (p : Seat) (ℓ : Time) where
   unfolding viewIn provided fits
   view-found entries e roomy = rw (e, le-leb (farm .seats) entries roomy)
 
-  -- By value is as in a buffer that has room.
-  pub view-by-value : (entries : ℕ) → farm .seats ≤ entries → viewIn (buffer entries) farm p ℓ ≡ viewIn byValue farm p ℓ
-  unfolding viewIn fits
-  view-by-value entries roomy = rw (le-leb (farm .seats) entries roomy)
+  pub view-valued : isPlace farm p ℓ ≡ true → viewIn byValue farm p ℓ ≡ found (latestTimes (farm .seats) (viewOf farm p ℓ))
+  unfolding viewIn provided fits
+  view-valued e = rw e
 
   pub known-nowhere : isPlace farm p ℓ ≡ false → knownIn farm p ℓ ≡ refused NoSuchPlace
   unfolding knownIn provided
@@ -60,6 +64,10 @@ module _ (farm : Farm) (p : Seat) (ℓ : Time) where
   pub known-found : isPlace farm p ℓ ≡ true → knownIn farm p ℓ ≡ found (knownOf farm p ℓ)
   unfolding knownIn provided
   known-found e = rw e
+
+  pub seen-found : isPlace farm p ℓ ≡ true → (l : List ℤ) (k : ℕ) → l ≡ laid (latestTimes (farm .seats) (viewOf farm p ℓ)) noTimes → k ≡ knownOf farm p ℓ
+      → _≡_ {A = Seen} (record { given = Done; latest = l; known = k }) (seenAnswer (viewIn byValue farm p ℓ) (knownIn farm p ℓ))
+  seen-found e l k el ek = rw (view-valued e, known-found e, el, ek) refl
 
   pub view-in-time : (k : ℕ) → ℓ .0 ≤ k → (q : ℕ) → viewOf farm p ℓ q ≤ suc k
   view-in-time k h q =
@@ -81,10 +89,6 @@ module _ (farm : Farm) (p : Seat) (ℓ : Time) where
       → settledIn (buffer entries) need farm p ℓ ≡ ofOutcome (outcomeOf farm p ℓ)
   unfolding settledIn provided fits
   settled-roomy entries need e roomy = rw (e, le-leb need entries roomy)
-
-  pub settled-by-value : (entries need : ℕ) → need ≤ entries → settledIn (buffer entries) need farm p ℓ ≡ settledIn byValue need farm p ℓ
-  unfolding settledIn fits
-  settled-by-value entries need roomy = rw (le-leb need entries roomy)
 
   pub settled-valued : (need : ℕ) → isPlace farm p ℓ ≡ true → settledIn byValue need farm p ℓ ≡ ofOutcome (outcomeOf farm p ℓ)
   unfolding settledIn provided fits

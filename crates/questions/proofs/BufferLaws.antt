@@ -7,13 +7,10 @@ use native.Mathlib.Numerals.{add-one}
 use native.Mathlib.Omega.{arith}
 use lib.ListN.{length, take, drop, getD, set}
 use lib.Seq.{length-take-le, take-suc, take-all, drop-cons, set-at, append-snoc}
-use lib.IntN.{ℤ}
 use Rattle.farm.specs.declared.refusals.Refusal.{Refusal}
-use Rattle.questions.specs.declared.answers.Given.{Given}
 use Rattle.questions.specs.declared.answers.Given.the-variants.{Done, Refused}
-use Rattle.questions.specs.declared.answers.Times.{Times}
 use Rattle.questions.specs.Question.{Asked, found, refused}
-use Rattle.questions.specs.Answers.{laid, givenAnswer, into, noTimes, timesAnswer}
+use Rattle.questions.specs.Answers.{laid, givenAnswer, into}
 
 -- A buffer whose first i entries are new.
 abbrev pub laidTo : {A : Type 0} → ℕ → (new old : List A) → List A
@@ -41,11 +38,3 @@ refused-buffer asked refusal old e = rw e (refl, refl)
 pub found-buffer : {A : Type 0} (asked : Asked (List A)) (new old now : List A) → asked ≡ found new → now ≡ laid new old
     → (Done ≡ givenAnswer asked) × (now ≡ into asked old)
 found-buffer asked new old now e en = rw e (refl, en)
-
-abbrev the-times : Given → List ℤ → Times
-the-times g l = record { given = g; latest = l }
-
--- By value: what would stand in a buffer that holds no times.
-pub by-value : (asked valued : Asked (List ℤ)) (g : Given) (l : List ℤ) → asked ≡ valued → g ≡ givenAnswer asked → l ≡ into asked noTimes
-    → _≡_ {A = Times} (record { given = g; latest = l }) (timesAnswer valued)
-by-value asked valued g l e eg el = rw (← e) (ap₂ the-times eg el)

@@ -154,8 +154,3 @@ module _ (lent : Lent) (farm : Farm) (p : Seat) (ℓ : Time) where
       → coreIn lent farm p ℓ ≡ found (latestTimes (farm .seats) (s .core))
   unfolding coreIn
   core-found s e = looked-found _ _ s e
-
-pub core-alike : (a b : Lent) (farm : Farm) (p : Seat) (ℓ : Time) → settledIn a (farm .seats) farm p ℓ ≡ settledIn b (farm .seats) farm p ℓ
-    → coreIn a farm p ℓ ≡ coreIn b farm p ℓ
-unfolding coreIn
-core-alike a b farm p ℓ e = ap (looking (λ s. latestTimes (farm .seats) (s .core))) e

@@ -1,9 +1,7 @@
-pub mod Examples
 pub mod BufferLaws
 pub mod TimeLaws
 pub mod AskLaws
 pub mod CompleteLaws
 pub mod CoreLaws
 pub mod MarkLaws
-pub mod PlaceLaws
-pub mod RecordLaws
+pub mod AgreedLaws

@@ -26,8 +26,8 @@ use Rattle.viewing.proofs.ViewSteps.{held-counts}
 use Rattle.record.specs.declared.edits.Edit.{Edit}
 use Rattle.record.specs.Tables.{seatsOf, timesOf}
 use Rattle.questions.specs.Marks.{markAt, marksIn, countIn}
-use Rattle.questions.specs.Question.{found, refused, Lent, byValue, inCore, marksOf, countOf, settledIn}
-use Rattle.questions.specs.Accepted.{marksOn, countOn}
+use Rattle.questions.specs.Question.{found, refused, Lent, inCore, marksOf, countOf, settledIn}
+use Rattle.questions.specs.Accepted.{marksOn}
 use Rattle.questions.proofs.CoreLaws.{Ruled, core-array, core-of-none, looked-refused, looked-found}
 
 -- ════ One mark ════
@@ -114,15 +114,6 @@ module _ (farm : Farm) (seats times : List ℕ) (p : Seat) (ℓ : Time) where
       → marksOn lent farm seats times p ℓ ≡ found (marksIn (s .core) seats times)
   unfolding marksOn
   marks-found lent s e = looked-found _ _ s e
-
-  pub count-refused : (r : Refusal) → settledIn byValue 0 farm p ℓ ≡ refused r → countOn farm seats times p ℓ ≡ refused r
-  unfolding countOn
-  count-refused r e = looked-refused _ _ r e
-
-  pub count-found : (s : Settled) → settledIn byValue 0 farm p ℓ ≡ found s
-      → countOn farm seats times p ℓ ≡ found (countIn (s .core) seats times)
-  unfolding countOn
-  count-found s e = looked-found _ _ s e
 
 -- ════ The marks of edits are those of their places ════
 

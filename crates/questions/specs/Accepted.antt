@@ -9,8 +9,8 @@ use Rattle.farm.specs.declared.places.Time.{Time}
 use Rattle.knowledge.specs.Farm.{Farm}
 use Rattle.knowledge.specs.Views.{latestTimes}
 use Rattle.viewing.specs.declared.sizes.Sizes.{Sizes}
-use Rattle.questions.specs.Question.{Asked, Lent, byValue, looking, settledIn}
-use Rattle.questions.specs.Marks.{marksIn, countIn}
+use Rattle.questions.specs.Question.{Asked, Lent, looking, settledIn}
+use Rattle.questions.specs.Marks.{marksIn}
 
 -- What the numbers of every accepted record meet.
 pub record Accepted (sizes : Sizes) : Type 0 where
@@ -28,6 +28,3 @@ coreIn lent farm p ℓ = looking (λ s. latestTimes (farm .seats) (s .core)) (se
 unfoldable pub marksOn : Lent → Farm → (seats times : List ℕ) → Seat → Time → Asked (List ℕ)
 marksOn lent farm seats times p ℓ =
     looking (λ s. marksIn (s .core) seats times) (settledIn lent (length seats) farm p ℓ)
-
-unfoldable pub countOn : Farm → (seats times : List ℕ) → Seat → Time → Asked ℕ
-countOn farm seats times p ℓ = looking (λ s. countIn (s .core) seats times) (settledIn byValue 0 farm p ℓ)

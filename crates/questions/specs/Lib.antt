@@ -1,7 +1,5 @@
--- What a question about a record means, and document 01's worked examples.
+-- What a question about a record means.
 pub mod Question
 pub mod Marks
 pub mod Accepted
 pub mod Answers
-pub mod Reading
-pub mod Examples

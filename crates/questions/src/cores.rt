@@ -1,8 +1,5 @@
 // Settled answers and cores of an accepted record: 8, then 7, then 9.
 use crate::answers::Given;
-use crate::answers::SettledAnswer;
-use crate::answers::Summary;
-use crate::answers::Times;
 use crate::times::put_times;
 use crate::views::is_place;
 use construction::settled::Ruling;
@@ -14,30 +11,9 @@ use farm::refusals::Refusal;
 ghost use mathlib.Core.Path.{_≡_};
 ghost use lib.ListN.{length};
 ghost use Rattle.viewing.specs.Counts.{farmFor};
-ghost use Rattle.questions.specs.Question.{byValue, buffer, settledIn};
+ghost use Rattle.questions.specs.Question.{buffer};
 ghost use Rattle.questions.specs.Accepted.{Accepted, coreIn};
-ghost use Rattle.questions.specs.Answers.{settledAnswer, givenAnswer, into, timesAnswer};
-
-// Critical time, kept set and count of steps.
-pub fn ask_settled(losses: &[u16], sizes: Sizes, seat: Seat, time: Time) -> SettledAnswer
-    requires { ⌜ Accepted sizes ⌝ }
-    ensures { λ r. ⌜ r ≡ settledAnswer (settledIn byValue 0 (farmFor sizes (now (losses .entry))) seat time) ⌝ }
-{
-    if !is_place(sizes, seat, time) {
-        return SettledAnswer::Refused(Refusal::NoSuchPlace);
-    }
-    let answer = settle(losses, sizes, seat, time);
-    let ruling = answer.ruling;
-    if let Ruling::Refused(refusal) = ruling {
-        return SettledAnswer::Refused(refusal);
-    }
-    let settled = answer.settled;
-    SettledAnswer::Settled(Summary {
-        critical: settled.critical,
-        kept: settled.kept,
-        steps: settled.steps,
-    })
-}
+ghost use Rattle.questions.specs.Answers.{givenAnswer, into};
 
 // The core, into a lent buffer of at least n numbers.
 pub fn ask_core_into(losses: &[u16], sizes: Sizes, seat: Seat, time: Time, out: &mut [i16]) -> Given
@@ -61,14 +37,4 @@ pub fn ask_core_into(losses: &[u16], sizes: Sizes, seat: Seat, time: Time, out: 
     let core = settled.core;
     put_times(&core.of, sizes.seats, out);
     Given::Done
-}
-
-// The same by value.
-pub fn ask_core(losses: &[u16], sizes: Sizes, seat: Seat, time: Time) -> Times
-    requires { ⌜ Accepted sizes ⌝ }
-    ensures { λ r. ⌜ r ≡ timesAnswer (coreIn byValue (farmFor sizes (now (losses .entry))) seat time) ⌝ }
-{
-    let mut latest: [i16; 7] = [-1; 7];
-    let given = ask_core_into(losses, sizes, seat, time, &mut latest);
-    Times { given, latest }
 }

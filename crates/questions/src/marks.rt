@@ -1,6 +1,5 @@
 // Which edits of an accepted record are in a core: 8, then 7, then 9. An edit is in the core if its
 // place is.
-use crate::answers::Count;
 use crate::answers::Given;
 use crate::views::is_place;
 use construction::settled::Ruling;
@@ -16,8 +15,8 @@ ghost use Rattle.farm.specs.Limits.{limits};
 ghost use Rattle.viewing.specs.Counts.{farmFor, held};
 ghost use Rattle.questions.specs.Marks.{markAt, marksIn, countIn};
 ghost use Rattle.questions.specs.Question.{buffer};
-ghost use Rattle.questions.specs.Accepted.{Accepted, marksOn, countOn};
-ghost use Rattle.questions.specs.Answers.{laid, countAnswer, givenAnswer, into};
+ghost use Rattle.questions.specs.Accepted.{Accepted, marksOn};
+ghost use Rattle.questions.specs.Answers.{laid, givenAnswer, into};
 
 // 1 for a place in the core, 0 for one outside. A seat that the counts do not have is outside.
 fn mark_of(core: &[u16], seat: Seat, time: Time) -> u8
@@ -86,29 +85,4 @@ pub fn ask_marks<'a>(
     let core = settled.core;
     put_marks(&core.of, editors, times, out);
     Given::Done
-}
-
-// How many edits are in the core.
-pub fn ask_count<'a>(
-    losses: &'a [u16],
-    editors: &'a [u8],
-    times: &'a [u16],
-    sizes: Sizes,
-    seat: Seat,
-    time: Time,
-) -> Count
-    requires { ⌜ Accepted sizes × (length (now times) ≡ length (now editors)) × (length (now editors) ≤ limits .mostEdits) ⌝ }
-    ensures { λ r. ⌜ r ≡ countAnswer (countOn (farmFor sizes (now (losses .entry))) (now (editors .entry)) (now (times .entry)) seat time) ⌝ }
-{
-    if !is_place(sizes, seat, time) {
-        return Count::Refused(Refusal::NoSuchPlace);
-    }
-    let answer = settle(losses, sizes, seat, time);
-    let ruling = answer.ruling;
-    if let Ruling::Refused(refusal) = ruling {
-        return Count::Refused(refusal);
-    }
-    let settled = answer.settled;
-    let core = settled.core;
-    Count::Edits(count_marks(&core.of, editors, times))
 }

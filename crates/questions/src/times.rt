@@ -1,7 +1,4 @@
 // Views as they are given: for each seat the latest time, or -1 for none.
-use crate::answers::Given;
-use crate::answers::Times;
-use farm::refusals::Refusal;
 ghost use mathlib.Core.Path.{_≡_};
 ghost use Prim.Native.Nat.{suc, _≤_};
 ghost use lib.ListN.{length};
@@ -9,8 +6,7 @@ ghost use Rattle.farm.specs.Limits.{limits};
 ghost use Rattle.knowledge.specs.Views.{latest, latestTimes};
 ghost use Rattle.viewing.specs.Counts.{held};
 ghost use Rattle.questions.specs.Accepted.{InTime};
-ghost use Rattle.questions.specs.Answers.{laid, timesAnswer};
-ghost use Rattle.questions.specs.Question.{refused};
+ghost use Rattle.questions.specs.Answers.{laid};
 
 fn latest_time(count: u16) -> i16
     requires { ⌜ count ≤ suc (limits .mostRounds) ⌝ }
@@ -27,15 +23,5 @@ pub fn put_times(counts: &[u16], seats: u8, out: &mut [i16])
     let end = seats as usize;
     for q in 0..end {
         out[q] = latest_time(counts[q]);
-    }
-}
-
-// A view or a core that is refused.
-pub fn no_times(refusal: Refusal) -> Times
-    ensures { λ r. ⌜ r ≡ timesAnswer (refused refusal) ⌝ }
-{
-    Times {
-        given: Given::Refused(refusal),
-        latest: [-1; 7],
     }
 }

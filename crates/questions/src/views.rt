@@ -1,10 +1,9 @@
 // Views, known sets and losers of an accepted record. 8 is tested first, then 7; 9 is never given.
 use crate::answers::Given;
-use crate::answers::Known;
+use crate::answers::Seen;
 use crate::answers::Standing;
-use crate::answers::Times;
 use crate::times::put_times;
-use construction::known::known_of;
+use construction::known::known_in;
 use construction::losers::is_loser;
 use viewing::sizes::Sizes;
 use viewing::views::view_of;
@@ -16,9 +15,9 @@ ghost use mathlib.Core.Bool.{_&&_};
 ghost use lib.Dec.{ltb, leb};
 ghost use lib.ListN.{length};
 ghost use Rattle.viewing.specs.Counts.{farmFor};
-ghost use Rattle.questions.specs.Question.{byValue, buffer, viewIn, knownIn, loserIn};
+ghost use Rattle.questions.specs.Question.{byValue, buffer, refused, viewIn, knownIn, loserIn};
 ghost use Rattle.questions.specs.Accepted.{Accepted};
-ghost use Rattle.questions.specs.Answers.{knownAnswer, standingAnswer, givenAnswer, into, timesAnswer};
+ghost use Rattle.questions.specs.Answers.{seenAnswer, standingAnswer, givenAnswer, into};
 
 // Whether a seat is below n and a time at most R: where not, 8 is given.
 pub fn is_place(sizes: Sizes, seat: Seat, time: Time) -> bool
@@ -48,25 +47,33 @@ pub fn ask_view_into(losses: &[u16], sizes: Sizes, seat: Seat, time: Time, out: 
     Given::Done
 }
 
-// The same by value.
-pub fn ask_view(losses: &[u16], sizes: Sizes, seat: Seat, time: Time) -> Times
-    requires { ⌜ Accepted sizes ⌝ }
-    ensures { λ r. ⌜ r ≡ timesAnswer (viewIn byValue (farmFor sizes (now (losses .entry))) seat time) ⌝ }
+// A view that is refused.
+pub fn none_seen(refusal: Refusal) -> Seen
+    ensures { λ r. ⌜ r ≡ seenAnswer (refused refusal) (refused refusal) ⌝ }
 {
-    let mut latest: [i16; 7] = [-1; 7];
-    let given = ask_view_into(losses, sizes, seat, time, &mut latest);
-    Times { given, latest }
+    Seen {
+        given: Given::Refused(refusal),
+        latest: [-1; 7],
+        known: 0,
+    }
 }
 
-// The known set of a place's view.
-pub fn ask_known(losses: &[u16], sizes: Sizes, seat: Seat, time: Time) -> Known
+// The view and its known set, by value.
+pub fn ask_seen(losses: &[u16], sizes: Sizes, seat: Seat, time: Time) -> Seen
     requires { ⌜ Accepted sizes ⌝ }
-    ensures { λ r. ⌜ r ≡ knownAnswer (knownIn (farmFor sizes (now (losses .entry))) seat time) ⌝ }
+    ensures { λ r. ⌜ r ≡ seenAnswer (viewIn byValue (farmFor sizes (now (losses .entry))) seat time) (knownIn (farmFor sizes (now (losses .entry))) seat time) ⌝ }
 {
     if !is_place(sizes, seat, time) {
-        return Known::Refused(Refusal::NoSuchPlace);
+        return none_seen(Refusal::NoSuchPlace);
     }
-    Known::Set(known_of(losses, sizes, seat, time))
+    let view = view_of(losses, sizes, seat, time);
+    let mut latest: [i16; 7] = [-1; 7];
+    put_times(&view.of, sizes.seats, &mut latest);
+    Seen {
+        given: Given::Done,
+        latest,
+        known: known_in(losses, sizes, &view.of),
+    }
 }
 
 // Whether a seat is a loser of the whole record, or clean.

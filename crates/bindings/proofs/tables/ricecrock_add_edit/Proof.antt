@@ -1,7 +1,8 @@
 -- `bindings::tables::ricecrock_add_edit` meets its contract, by `live`'s `change` over `coded_edit`.
 -- Assumes nothing.
-use Rattle.live.proofs.Handed.{none}
-use Rattle.live.proofs.Live.{change, a-u8, a-u32, an-i16}
+use Rattle.walks.proofs.Handed.{none}
+use Rattle.walks.proofs.Parameters.{a-u8, a-u32, an-i16}
+use Rattle.live.proofs.Live.{change}
 use base.Logic.{id⊢}
 use Rattle.bindings.proofs.Stepped.{stepped}
 use Rattle.bindings.proofs.tables.ricecrock_add_edit as thin

@@ -1,6 +1,6 @@
 -- `bindings::tables::ricecrock_add_round` meets its contract, by `live`'s `change` over `coded_round`.
 -- Assumes nothing.
-use Rattle.live.proofs.Handed.{none, shared}
+use Rattle.walks.proofs.Handed.{none, shared}
 use Rattle.live.proofs.Live.{change}
 use base.Logic.{id⊢}
 use denote.Builtin.{u16}

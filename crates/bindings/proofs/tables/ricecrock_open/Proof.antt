@@ -1,7 +1,8 @@
 -- `bindings::tables::ricecrock_open` meets its contract, by `live`'s `change` over `coded_opening`.
 -- Assumes nothing.
-use Rattle.live.proofs.Handed.{none}
-use Rattle.live.proofs.Live.{change, a-u8}
+use Rattle.walks.proofs.Handed.{none}
+use Rattle.walks.proofs.Parameters.{a-u8}
+use Rattle.live.proofs.Live.{change}
 use base.Logic.{id⊢}
 use Rattle.bindings.proofs.Stepped.{stepped}
 use Rattle.bindings.proofs.tables.ricecrock_open as thin

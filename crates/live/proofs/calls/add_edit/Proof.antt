@@ -1,7 +1,8 @@
 -- `live::calls::add_edit` meets its contract, by `Live.antt`'s `change` over `with_edit`.
 -- Assumes nothing.
-use Rattle.live.proofs.Handed.{none}
-use Rattle.live.proofs.Live.{change, a-seat, a-u32, an-i16}
+use Rattle.walks.proofs.Handed.{none}
+use Rattle.walks.proofs.Parameters.{a-seat, a-u32, an-i16}
+use Rattle.live.proofs.Live.{change}
 use Rattle.live.proofs.Stepped.{stepped}
 use base.Logic.{id⊢}
 use Rattle.live.proofs.calls.add_edit as thin

@@ -1,6 +1,6 @@
 -- `live::calls::add_round` meets its contract, by `Live.antt`'s `change` over `with_round`.
 -- Assumes nothing.
-use Rattle.live.proofs.Handed.{none, shared}
+use Rattle.walks.proofs.Handed.{none, shared}
 use Rattle.live.proofs.Live.{change}
 use Rattle.live.proofs.Stepped.{stepped}
 use base.Logic.{id⊢}

@@ -1,7 +1,8 @@
 -- `live::calls::open` meets its contract, by `Live.antt`'s `change` over `opened`.
 -- Assumes nothing.
-use Rattle.live.proofs.Handed.{none}
-use Rattle.live.proofs.Live.{change, a-u8}
+use Rattle.walks.proofs.Handed.{none}
+use Rattle.walks.proofs.Parameters.{a-u8}
+use Rattle.live.proofs.Live.{change}
 use Rattle.live.proofs.Stepped.{stepped}
 use base.Logic.{id⊢}
 use Rattle.live.proofs.calls.open as thin

@@ -31,8 +31,8 @@ returns c =
     let farm = farmFor (a .sizes) (a .losses .now) in
     same-place farm (a .editors .now) (a .times .now) (a .known .of) (a .time) (a .before) (a .seat) (a .place) (s .pre .0 .0 .seats) (s .pre .1 .0 .0) (s .pre .1 .0 .1) (s .pre .1 .0 .2) (s .pre .1 .1 .0) (c .if1 .taken) (s .pre .1 .1 .1)
 
-ask-place-requires : tie.Need-ask-place-requires
-ask-place-requires c κs = search needs
+ask-agreed-requires : tie.Need-ask-agreed-requires
+ask-agreed-requires c κs = search needs
 
 returns-2 : tie.Need-returns-2
 returns-2 c = search needs
@@ -48,5 +48,5 @@ next-place-spec =
     mul-set
     array-read-set
     returns
-    ask-place-requires
+    ask-agreed-requires
     returns-2)

@@ -34,8 +34,8 @@ known-sets-requires c κs =
     let early = start .pre .1 in
     (start .pre .0 .accepted .seats, omega arith)
 
-ask-place-requires : tie.Need-ask-place-requires Inv-loop μ-loop
-ask-place-requires c κs =
+ask-agreed-requires : tie.Need-ask-agreed-requires Inv-loop μ-loop
+ask-agreed-requires c κs =
     let ready = c .before .before .before .before .before .pre .0 in
     (ready .accepted, ready .parallel, ready .few)
 
@@ -45,7 +45,7 @@ loop-holds c =
     let start = c .before .before .before .before .before .before in
     let a = start .args in
     let some = start .pre .0 .accepted .bound in
-    (omega arith, omega arith, refl, puts-nothing (a .out .now) (a .at), omega arith, c .ask-place .ensures)
+    (omega arith, omega arith, refl, puts-nothing (a .out .now) (a .at), omega arith, c .ask-agreed .ensures)
 
 next-place-requires : tie.Need-next-place-requires Inv-loop μ-loop
 next-place-requires c κs =
@@ -116,7 +116,7 @@ put-seats-spec =
     Inv-loop
     μ-loop
     known-sets-requires
-    ask-place-requires
+    ask-agreed-requires
     loop-holds
     next-place-requires
     put-line-requires

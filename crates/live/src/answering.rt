@@ -1,0 +1,162 @@
+// What a call is answered before anything is added: its tests in document 01's order, on the parts of a table.
+use crate::answers::Done;
+use crate::sound::judge_table;
+use farm::limits::LARGEST_CELL;
+use farm::limits::MOST_EDITS;
+use farm::limits::MOST_ROUNDS;
+use farm::places::Seat;
+use farm::places::Time;
+use farm::refusals::Refusal;
+use record::edits::Before;
+use record::edits::Edit;
+use record::edits::comes_after;
+use record::answers::Judged;
+use judging::lists::judge;
+ghost use mathlib.Core.Path.{_≡_};
+ghost use mathlib.Core.List.{[]};
+ghost use lib.ListN.{take};
+ghost use Rattle.farm.specs.Limits.{limits};
+ghost use Rattle.record.specs.Writing.{listsOf};
+ghost use Rattle.record.specs.Answers.{judgedIn};
+ghost use Rattle.record.specs.Faults.{lastOf};
+ghost use Rattle.record.specs.Tables.{editsFrom};
+ghost use Rattle.record.specs.Writing.{judgedLists};
+ghost use Rattle.record.specs.declared.edits.Before.the-variants.{Nothing};
+ghost use Rattle.live.specs.Calls.{round, edit, Held, answerTo};
+ghost use Rattle.live.specs.Answers.{doneOf};
+ghost use Rattle.live.specs.Used.{tableOf, ArraysLong};
+
+// A round's sets, judged as those of a record of one round and no edits.
+fn judge_round(seats: u8, bound: u8, sets: &[u16]) -> Judged
+    ensures { λ r. ⌜ r ≡ judgedIn (judgedLists limits seats bound 1 (listsOf (now (sets .entry)) [] [] [] [])) ⌝ }
+{
+    let bytes: [u8; 1] = [0; 1];
+    let shorts: [u16; 1] = [0; 1];
+    let words: [u32; 1] = [0; 1];
+    let heights: [i16; 1] = [0; 1];
+    judge(
+        seats,
+        bound,
+        1,
+        sets,
+        &bytes[..0],
+        &shorts[..0],
+        &words[..0],
+        &heights[..0],
+    )
+}
+
+// A round: 19, 11, 10, 4. Its sets are judged as those of a record of one round.
+pub fn answer_round<'a, 'b>(
+    losses: &'a [u16],
+    editors: &'a [u8],
+    times: &'a [u16],
+    cells: &'a [u32],
+    changes: &'a [i16],
+    seats: u8,
+    bound: u8,
+    rounds: u16,
+    edits: u16,
+    sets: &'b [u16],
+) -> Done
+    requires { ⌜ ArraysLong (now losses) (now editors) (now times) (now cells) (now changes) ⌝ }
+    ensures { λ r. ⌜ r ≡ doneOf (answerTo (round (now (sets .entry))) (tableOf (now (losses .entry)) (now (editors .entry)) (now (times .entry)) (now (cells .entry)) (now (changes .entry)) seats bound rounds edits)) ⌝ }
+{
+    if !judge_table(
+        losses,
+        editors,
+        times,
+        cells,
+        changes,
+        seats,
+        bound,
+        rounds,
+        edits,
+    ) {
+        return Done::Refused(Refusal::BadTable);
+    }
+    if MOST_ROUNDS <= rounds as u32 {
+        return Done::Refused(Refusal::RoundsFull);
+    }
+    let judged = judge_round(seats, bound, sets);
+    match judged {
+        Judged::Accepted => Done::Accepted,
+        Judged::Refused(refusal) => Done::Refused(refusal),
+    }
+}
+
+// The last of so many edits, which the next one has to come after.
+fn last_held<'a>(
+    editors: &'a [u8],
+    times: &'a [u16],
+    cells: &'a [u32],
+    changes: &'a [i16],
+    held: usize,
+) -> Before
+    requires { ⌜ Held held (now editors) (now times) (now cells) (now changes) ⌝ }
+    ensures { λ r. ⌜ r ≡ lastOf Nothing (editsFrom (take held (now (editors .entry))) (take held (now (times .entry))) (take held (now (cells .entry))) (take held (now (changes .entry)))) ⌝ }
+{
+    if held == 0 {
+        return Before::Nothing;
+    }
+    let at = held - 1;
+    Before::This(Edit {
+        seat: Seat(editors[at]),
+        time: Time(times[at]),
+        cell: cells[at],
+        change: changes[at],
+    })
+}
+
+// An edit: 19, 3, 12, 5. It is placed at the present time.
+pub fn answer_edit<'a>(
+    losses: &'a [u16],
+    editors: &'a [u8],
+    times: &'a [u16],
+    cells: &'a [u32],
+    changes: &'a [i16],
+    seats: u8,
+    bound: u8,
+    rounds: u16,
+    edits: u16,
+    seat: Seat,
+    cell: u32,
+    change: i16,
+) -> Done
+    requires { ⌜ ArraysLong (now losses) (now editors) (now times) (now cells) (now changes) ⌝ }
+    ensures { λ r. ⌜ r ≡ doneOf (answerTo (edit seat cell change) (tableOf (now (losses .entry)) (now (editors .entry)) (now (times .entry)) (now (cells .entry)) (now (changes .entry)) seats bound rounds edits)) ⌝ }
+{
+    if !judge_table(
+        losses,
+        editors,
+        times,
+        cells,
+        changes,
+        seats,
+        bound,
+        rounds,
+        edits,
+    ) {
+        return Done::Refused(Refusal::BadTable);
+    }
+    if seats <= seat.0 {
+        return Done::Refused(Refusal::OutOfRange);
+    }
+    if LARGEST_CELL < cell {
+        return Done::Refused(Refusal::OutOfRange);
+    }
+    if MOST_EDITS <= edits as u32 {
+        return Done::Refused(Refusal::EditsFull);
+    }
+    let before = last_held(editors, times, cells, changes, edits as usize);
+    let new = Edit {
+        seat,
+        time: Time(rounds),
+        cell,
+        change,
+    };
+    if !comes_after(before, new) {
+        return Done::Refused(Refusal::BadOrder);
+    }
+    Done::Accepted
+}

@@ -1,0 +1,2 @@
+-- What is promised of questions on the live table.
+pub mod Promises

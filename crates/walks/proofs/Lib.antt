@@ -1,0 +1,10 @@
+pub mod Frames
+pub mod Thin
+pub mod Handed
+pub mod Enters
+pub mod Changed
+pub mod Slices
+pub mod Picks
+pub mod Picked
+pub mod Parameters
+pub mod Answered
