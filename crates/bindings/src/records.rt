@@ -2,8 +2,8 @@
 // goes behind a reference, and stays as it was where the call is refused.
 use crate::codes::checked_number;
 use crate::codes::written_number;
-use record::answers::Checked;
 use reading::tables::read;
+use record::answers::Checked;
 use record::answers::Written;
 use writing::lists::write;
 ghost use mathlib.Core.Path.{_≡_};

@@ -1,9 +1,9 @@
 // What a question needs of a record's bytes: all of it is read, and the loss sets and the places of the
 // edits stay in lent lists.
-use viewing::sizes::Sizes;
-use record::header::Header;
-use record::answers::Checked;
 use reading::tables::read;
+use record::answers::Checked;
+use record::header::Header;
+use viewing::sizes::Sizes;
 ghost use mathlib.Core.Path.{_≡_};
 ghost use Prim.Native.Nat.{_*_, _≤_};
 ghost use lib.ListN.{length};

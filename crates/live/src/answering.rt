@@ -7,11 +7,11 @@ use farm::limits::MOST_ROUNDS;
 use farm::places::Seat;
 use farm::places::Time;
 use farm::refusals::Refusal;
+use judging::lists::judge;
+use record::answers::Judged;
 use record::edits::Before;
 use record::edits::Edit;
 use record::edits::comes_after;
-use record::answers::Judged;
-use judging::lists::judge;
 ghost use mathlib.Core.Path.{_≡_};
 ghost use mathlib.Core.List.{[]};
 ghost use lib.ListN.{take};
@@ -24,7 +24,7 @@ ghost use Rattle.record.specs.Writing.{judgedLists};
 ghost use Rattle.record.specs.declared.edits.Before.the-variants.{Nothing};
 ghost use Rattle.live.specs.Calls.{round, edit, Held, answerTo};
 ghost use Rattle.live.specs.Answers.{doneOf};
-ghost use Rattle.live.specs.Used.{tableOf, ArraysLong};
+ghost use Rattle.live.specs.Used.{tableOf};
 
 // A round's sets, judged as those of a record of one round and no edits.
 fn judge_round(seats: u8, bound: u8, sets: &[u16]) -> Judged
@@ -48,18 +48,17 @@ fn judge_round(seats: u8, bound: u8, sets: &[u16]) -> Judged
 
 // A round: 19, 11, 10, 4. Its sets are judged as those of a record of one round.
 pub fn answer_round<'a, 'b>(
-    losses: &'a [u16],
-    editors: &'a [u8],
-    times: &'a [u16],
-    cells: &'a [u32],
-    changes: &'a [i16],
+    losses: &'a [u16; 889],
+    editors: &'a [u8; 512],
+    times: &'a [u16; 512],
+    cells: &'a [u32; 512],
+    changes: &'a [i16; 512],
     seats: u8,
     bound: u8,
     rounds: u16,
     edits: u16,
     sets: &'b [u16],
 ) -> Done
-    requires { ⌜ ArraysLong (now losses) (now editors) (now times) (now cells) (now changes) ⌝ }
     ensures { λ r. ⌜ r ≡ doneOf (answerTo (round (now (sets .entry))) (tableOf (now (losses .entry)) (now (editors .entry)) (now (times .entry)) (now (cells .entry)) (now (changes .entry)) seats bound rounds edits)) ⌝ }
 {
     if !judge_table(
@@ -110,11 +109,11 @@ fn last_held<'a>(
 
 // An edit: 19, 3, 12, 5. It is placed at the present time.
 pub fn answer_edit<'a>(
-    losses: &'a [u16],
-    editors: &'a [u8],
-    times: &'a [u16],
-    cells: &'a [u32],
-    changes: &'a [i16],
+    losses: &'a [u16; 889],
+    editors: &'a [u8; 512],
+    times: &'a [u16; 512],
+    cells: &'a [u32; 512],
+    changes: &'a [i16; 512],
     seats: u8,
     bound: u8,
     rounds: u16,
@@ -123,7 +122,6 @@ pub fn answer_edit<'a>(
     cell: u32,
     change: i16,
 ) -> Done
-    requires { ⌜ ArraysLong (now losses) (now editors) (now times) (now cells) (now changes) ⌝ }
     ensures { λ r. ⌜ r ≡ doneOf (answerTo (edit seat cell change) (tableOf (now (losses .entry)) (now (editors .entry)) (now (times .entry)) (now (cells .entry)) (now (changes .entry)) seats bound rounds edits)) ⌝ }
 {
     if !judge_table(

@@ -13,7 +13,7 @@ ghost use mathlib.Core.Path.{_≡_};
 ghost use Prim.Native.Nat.{_+_, _*_, _≤_, _<_};
 ghost use lib.ListN.{length};
 ghost use Rattle.record.specs.Tables.{over};
-ghost use Rattle.live.specs.Calls.{opening, round, edit, Held, added};
+ghost use Rattle.live.specs.Calls.{opening, round, edit, added};
 ghost use Rattle.live.specs.Answers.{Ends, refusing};
 
 // An opening: 3, or a record with no rounds and no edits. Nothing else in the table is touched.
@@ -63,7 +63,7 @@ fn put_sets(losses: &mut [u16], at: usize, sets: &[u16])
 
 // The round goes behind the ones held.
 fn put_round(table: Table, sets: &[u16]) -> Table
-    requires { ⌜ (table .seats * table .rounds + length (now sets) ≤ 889) × (table .rounds < 127) × (length (table .losses) ≡ 889) ⌝ }
+    requires { ⌜ (table .seats * table .rounds + length (now sets) ≤ 889) × (table .rounds < 127) ⌝ }
     ensures { λ r. ⌜ r ≡ added (round (now (sets .entry))) table ⌝ }
 {
     let mut losses = table.losses;
@@ -105,7 +105,7 @@ pub fn with_round(table: Table, sets: &[u16]) -> Step
 
 // The edit goes behind the ones held, at the present time.
 fn put_edit(table: Table, seat: Seat, cell: u32, change: i16) -> Table
-    requires { ⌜ (table .edits < 512) × Held (table .edits + 1) (table .editors) (table .times) (table .cells) (table .changes) ⌝ }
+    requires { ⌜ table .edits < 512 ⌝ }
     ensures { λ r. ⌜ r ≡ added (edit seat cell change) table ⌝ }
 {
     let at = table.edits as usize;

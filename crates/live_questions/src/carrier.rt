@@ -1,24 +1,23 @@
 // The live table as a carrier of a record: 19, or the header of the record in its used part.
 use farm::refusals::Refusal;
 use live::sound::judge_table;
-use record::header::Header;
 use record::answers::Checked;
+use record::header::Header;
 ghost use Rattle.carriers.specs.Carried.{Carried};
-ghost use Rattle.live.specs.Used.{tableReading, tableOf, ArraysLong};
+ghost use Rattle.live.specs.Used.{tableReading, tableOf};
 
 // What a table reads as: 19, or the header of the record in its used part.
 pub fn check_table<'a>(
-    losses: &'a [u16],
-    editors: &'a [u8],
-    times: &'a [u16],
-    cells: &'a [u32],
-    changes: &'a [i16],
+    losses: &'a [u16; 889],
+    editors: &'a [u8; 512],
+    times: &'a [u16; 512],
+    cells: &'a [u32; 512],
+    changes: &'a [i16; 512],
     seats: u8,
     bound: u8,
     rounds: u16,
     edits: u16,
 ) -> Checked
-    requires { ⌜ ArraysLong (now losses) (now editors) (now times) (now cells) (now changes) ⌝ }
     ensures { λ r. ⌜ Carried (tableReading (tableOf (now (losses .entry)) (now (editors .entry)) (now (times .entry)) (now (cells .entry)) (now (changes .entry)) seats bound rounds edits)) r (now (losses .entry)) (now (editors .entry)) (now (times .entry)) ⌝ }
 {
     if !judge_table(

@@ -2,7 +2,6 @@
 // the page ends so far, and the answer is where it ends then.
 use construction::known::KnownSets;
 use construction::known::known_sets;
-use viewing::sizes::Sizes;
 use farm::places::Seat;
 use farm::places::Time;
 use farm::sets::holds;
@@ -10,9 +9,10 @@ use lines::printing::PlaceLine;
 use lines::printing::Printed;
 use lines::printing::over_line;
 use lines::printing::place_line;
-use questions::answers::Given;
-use questions::answers::Agreed;
 use questions::agreed::ask_agreed;
+use questions::answers::Agreed;
+use questions::answers::Given;
+use viewing::sizes::Sizes;
 ghost use mathlib.Core.Path.{_≡_};
 ghost use Prim.Native.Nat.{suc, _+_, _≤_, _<_};
 ghost use lib.ListN.{length};

@@ -19,28 +19,28 @@ use Rattle.live.proofs.answering.answer_edit.Tie as tie
 
 returns : tie.Need-returns
 returns c =
-    let s = c .before .before .before .before .before .before in
+    let s = c .before .before in
     let a = s .args in
     let t = (tableOf (now (a .losses)) (now (a .editors)) (now (a .times)) (now (a .cells)) (now (a .changes)) (a .seats) (a .bound) (a .rounds) (a .edits)) in
     answers-refused (edit (a .seat) (a .cell) (a .change)) t BadTable (edit-bad (a .seat) (a .cell) (a .change) t (sym (c .before .judge-table .ensures) ∙ not-true _ (c .if1 .taken)))
 
 returns-2 : tie.Need-returns-2
 returns-2 c =
-    let s = c .before .before .before .before .before .before .before .before in
+    let s = c .before .before .before .before in
     let a = s .args in
     let t = (tableOf (now (a .losses)) (now (a .editors)) (now (a .times)) (now (a .cells)) (now (a .changes)) (a .seats) (a .bound) (a .rounds) (a .edits)) in
     answers-refused (edit (a .seat) (a .cell) (a .change)) t OutOfRange (edit-no-seat (a .seat) (a .cell) (a .change) t (sym (c .before .before .before .judge-table .ensures) ∙ not-false _ (c .before .before .if1 .left)) (omega arith))
 
 returns-3 : tie.Need-returns-3
 returns-3 c =
-    let s = c .before .before .before .before .before .before .before .before .before in
+    let s = c .before .before .before .before .before in
     let a = s .args in
     let t = (tableOf (now (a .losses)) (now (a .editors)) (now (a .times)) (now (a .cells)) (now (a .changes)) (a .seats) (a .bound) (a .rounds) (a .edits)) in
     answers-refused (edit (a .seat) (a .cell) (a .change)) t OutOfRange (edit-no-cell (a .seat) (a .cell) (a .change) t (sym (c .before .before .before .before .judge-table .ensures) ∙ not-false _ (c .before .before .before .if1 .left)) (omega arith))
 
 returns-4 : tie.Need-returns-4
 returns-4 c =
-    let s = c .before .before .before .before .before .before .before .before .before .before in
+    let s = c .before .before .before .before .before .before in
     let a = s .args in
     let t = (tableOf (now (a .losses)) (now (a .editors)) (now (a .times)) (now (a .cells)) (now (a .changes)) (a .seats) (a .bound) (a .rounds) (a .edits)) in
     answers-refused (edit (a .seat) (a .cell) (a .change)) t EditsFull (edit-full (a .seat) (a .cell) (a .change) t (sym (c .before .before .before .before .before .judge-table .ensures) ∙ not-false _ (c .before .before .before .before .if1 .left)) (omega arith) (omega arith) (s .fits .change) (omega arith))
@@ -51,7 +51,7 @@ returns-5 c =
     let s = c .before .before .before .before .before .before .before .before .before .before .before .before .before in
     let a = s .args in
     let t = (tableOf (now (a .losses)) (now (a .editors)) (now (a .times)) (now (a .cells)) (now (a .changes)) (a .seats) (a .bound) (a .rounds) (a .edits)) in
-    answers-refused (edit (a .seat) (a .cell) (a .change)) t BadOrder (edit-early (a .seat) (a .cell) (a .change) t (sym (c .before .before .before .before .before .before .before .before .judge-table .ensures) ∙ not-false _ (c .before .before .before .before .before .before .before .if1 .left)) (omega (arith, c .before .before .before .before .before .if2 .left)) (omega (arith, c .before .before .before .before .if3 .left)) (s .fits .change) (omega (arith, c .before .before .before .if4 .left))
+    answers-refused (edit (a .seat) (a .cell) (a .change)) t BadOrder (edit-early (a .seat) (a .cell) (a .change) t (sym (c .before .before .before .before .before .before .before .before .before .before .before .before .judge-table .ensures) ∙ not-false _ (c .before .before .before .before .before .before .before .before .before .before .before .if1 .left)) (omega (arith, c .before .before .before .before .before .before .before .before .before .if2 .left)) (omega (arith, c .before .before .before .before .before .before .before .before .if3 .left)) (s .fits .change) (omega (arith, c .before .before .before .before .before .before .before .if4 .left))
     (c .before .before .last-held .result) (c .before .before .last-held .ensures)
     (ap (λ (z : ℤ). follows (c .before .before .last-held .result) (editOf (a .seat .0) (a .rounds) (a .cell) z)) (sym (toZ-ofZ w16 (a .change) (s .fits .change))) ∙ sym (c .before .comes-after .ensures) ∙ not-true _ (c .if5 .taken)))
 
@@ -61,7 +61,7 @@ returns-6 c =
     let s = c .before .before .before .before .before .before .before .before .before .before .before .before .before in
     let a = s .args in
     let t = (tableOf (now (a .losses)) (now (a .editors)) (now (a .times)) (now (a .cells)) (now (a .changes)) (a .seats) (a .bound) (a .rounds) (a .edits)) in
-    answers-accepted (edit (a .seat) (a .cell) (a .change)) t (edit-accepted (a .seat) (a .cell) (a .change) t (sym (c .before .before .before .before .before .before .before .before .judge-table .ensures) ∙ not-false _ (c .before .before .before .before .before .before .before .if1 .left)) (omega (arith, c .before .before .before .before .before .if2 .left)) (omega (arith, c .before .before .before .before .if3 .left)) (s .fits .change) (omega (arith, c .before .before .before .if4 .left))
+    answers-accepted (edit (a .seat) (a .cell) (a .change)) t (edit-accepted (a .seat) (a .cell) (a .change) t (sym (c .before .before .before .before .before .before .before .before .before .before .before .before .judge-table .ensures) ∙ not-false _ (c .before .before .before .before .before .before .before .before .before .before .before .if1 .left)) (omega (arith, c .before .before .before .before .before .before .before .before .before .if2 .left)) (omega (arith, c .before .before .before .before .before .before .before .before .if3 .left)) (s .fits .change) (omega (arith, c .before .before .before .before .before .before .before .if4 .left))
     (c .before .before .last-held .result) (c .before .before .last-held .ensures)
     (ap (λ (z : ℤ). follows (c .before .before .last-held .result) (editOf (a .seat .0) (a .rounds) (a .cell) z)) (sym (toZ-ofZ w16 (a .change) (s .fits .change))) ∙ sym (c .before .comes-after .ensures) ∙ not-false _ (c .if5 .left)))
 

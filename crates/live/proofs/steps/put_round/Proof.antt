@@ -1,6 +1,8 @@
 -- `live::steps::put_round` meets its contract: the sets go over the entries behind those held.
 -- Assumes nothing.
 use borrow.Author.Needs.{needs}
+use mathlib.Core.Path.{_≡_}
+use lib.ListN.{length}
 use native.Mathlib.Omega.{arith}
 use denote.Ref.{now}
 use Rattle.live.proofs.StepLaws.{round-table}
@@ -8,7 +10,11 @@ use Rattle.live.proofs.steps.put_round.Statement.{statement}
 use Rattle.live.proofs.steps.put_round.Tie as tie
 
 put-sets-requires : tie.Need-put-sets-requires
-put-sets-requires c κs = let pre = c .before .before .before .before .before .pre in omega arith
+put-sets-requires c κs =
+    let s = c .before .before .before .before .before in
+    let pre = s .pre in
+    let long : length (s .args .table .losses) ≡ 889 = search needs in
+    omega arith
 
 returns : tie.Need-returns
 returns c =

@@ -10,22 +10,21 @@ use Rattle.live.proofs.steps.with_edit.Tie as tie
 
 put-edit-requires : tie.Need-put-edit-requires
 put-edit-requires c κs =
-    let s = c .before .before .before .before .before .before .before .before .before .before .before .before .before .before in
+    let s = c .before .before .before .before .before .before .before .before .before in
     let a = s .args in
     let same = toZ-ofZ w16 (a .change) (s .fits .change) in
-    let room = edit-has-room (a .seat) (a .cell) (a .change) (a .t1) (was-accepted (edit (a .seat) (a .cell) (a .change)) (a .t1) _ (rw same at (c .before .before .answer-edit .ensures)) (c .enum-told .given .1)) in
-    (room, record { editors = search needs; times = search needs; cells = search needs; changes = search needs })
+    edit-has-room (a .seat) (a .cell) (a .change) (a .t1) (was-accepted (edit (a .seat) (a .cell) (a .change)) (a .t1) _ (rw same at (c .before .before .answer-edit .ensures)) (c .enum-told .given .1))
 
 returns : tie.Need-returns
 returns c =
-    let s = c .before .before .before .before .before .before .before .before .before .before .before .before .before .before .before .before in
+    let s = c .before .before .before .before .before .before .before .before .before .before .before in
     let a = s .args in
     let same = toZ-ofZ w16 (a .change) (s .fits .change) in
     refused-step (edit (a .seat) (a .cell) (a .change)) (a .t1) _ _ (c .refused .ensures) (was-refused (edit (a .seat) (a .cell) (a .change)) (a .t1) _ _ (rw same at (c .before .before .before .before .answer-edit .ensures)) (c .before .before .done .given .1))
 
 returns-2 : tie.Need-returns-2
 returns-2 c =
-    let s = c .before .before .before .before .before .before .before .before .before .before .before .before .before .before .before in
+    let s = c .before .before .before .before .before .before .before .before .before .before in
     let a = s .args in
     let same = toZ-ofZ w16 (a .change) (s .fits .change) in
     accepted-step (edit (a .seat) (a .cell) (a .change)) (a .t1) _ (rw same at (c .put-edit .ensures)) (was-accepted (edit (a .seat) (a .cell) (a .change)) (a .t1) _ (rw same at (c .before .before .before .answer-edit .ensures)) (c .before .enum-told .given .1))

@@ -9,18 +9,17 @@ use Rattle.live.proofs.steps.with_round.Tie as tie
 
 put-round-requires : tie.Need-put-round-requires
 put-round-requires c κs =
-    let a = c .before .before .before .before .before .before .before .before .before .before .before .before .before .before .before .args in
-    let room = round-has-room (now (a .sets)) (a .t1) (was-accepted (round (now (a .sets))) (a .t1) _ (c .before .before .answer-round .ensures) (c .enum-told .given .1)) in
-    (room .0, room .1, search needs)
+    let a = c .before .before .before .before .before .before .before .before .before .before .args in
+    round-has-room (now (a .sets)) (a .t1) (was-accepted (round (now (a .sets))) (a .t1) _ (c .before .before .answer-round .ensures) (c .enum-told .given .1))
 
 returns : tie.Need-returns
 returns c =
-    let a = c .before .before .before .before .before .before .before .before .before .before .before .before .before .before .before .before .before .args in
+    let a = c .before .before .before .before .before .before .before .before .before .before .before .before .args in
     refused-step (round (now (a .sets))) (a .t1) _ _ (c .refused .ensures) (was-refused (round (now (a .sets))) (a .t1) _ _ (c .before .before .before .before .answer-round .ensures) (c .before .before .done .given .1))
 
 returns-2 : tie.Need-returns-2
 returns-2 c =
-    let a = c .before .before .before .before .before .before .before .before .before .before .before .before .before .before .before .before .args in
+    let a = c .before .before .before .before .before .before .before .before .before .before .before .args in
     accepted-step (round (now (a .sets))) (a .t1) _ (c .put-round .ensures) (was-accepted (round (now (a .sets))) (a .t1) _ (c .before .before .before .answer-round .ensures) (c .before .enum-told .given .1))
 
 pub with-round-spec : {M : Type 1} → statement M

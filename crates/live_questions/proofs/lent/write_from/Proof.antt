@@ -18,12 +18,12 @@ judge-table-requires c κs = search needs
 
 returns : tie.Need-returns
 returns c =
-    let a = c .before .before .before .before .before .before .before .before .args in
+    let a = c .before .before .before .args in
     bad-write (tableOf (now (a .losses)) (now (a .editors)) (now (a .times)) (now (a .cells)) (now (a .changes)) (a .seats) (a .bound) (a .rounds) (a .edits)) (now (a .out)) (sym (c .before .judge-table .ensures) ∙ not-true _ (c .if1 .taken))
 
 write-used-requires : tie.Need-write-used-requires
 write-used-requires c κs =
-    let s = c .before .before .before .before .before .before .before .before .before .before .before .before .before .before in
+    let s = c .before .before .before .before .before .before .before .before .before in
     let a = s .args in
     let g : goodRecord limits (usedRecord (tableOf (now (a .losses)) (now (a .editors)) (now (a .times)) (now (a .cells)) (now (a .changes)) (a .seats) (a .bound) (a .rounds) (a .edits))) ≡ true = (sym (c .before .before .before .before .before .before .before .judge-table .ensures) ∙ not-false _ (c .before .before .before .before .before .before .if1 .left)) in
     let k = accepted-sizes (tableOf (now (a .losses)) (now (a .editors)) (now (a .times)) (now (a .cells)) (now (a .changes)) (a .seats) (a .bound) (a .rounds) (a .edits)) g in
@@ -34,7 +34,7 @@ same-length c = search needs
 
 returns-2 : tie.Need-returns-2
 returns-2 c =
-    let a = c .before .before .before .before .before .before .before .before .before .before .before .before .before .before .before .before .before .args in
+    let a = c .before .before .before .before .before .before .before .before .before .before .before .before .args in
     good-write (tableOf (now (a .losses)) (now (a .editors)) (now (a .times)) (now (a .cells)) (now (a .changes)) (a .seats) (a .bound) (a .rounds) (a .edits)) (sym (c .before .before .before .before .before .before .before .before .before .before .judge-table .ensures) ∙ not-false _ (c .before .before .before .before .before .before .before .before .before .if1 .left)) (now (a .out)) _ _ (c .before .before .write-used .ensures)
 
 pub write-from-spec : {M : Type 1} → statement M
