@@ -1,7 +1,7 @@
 // What a seat is told about a record, for a host in C. The record is given as bytes, and the answer goes into
 // a lent buffer, which stays as it was where the question is refused.
 use crate::codes::given_number;
-use carriers::bytes::core_of_bytes;
+use byte_questions::asks::core;
 use farm::places::Seat;
 use farm::places::Time;
 ghost use mathlib.Core.Path.{_≡_};
@@ -18,6 +18,6 @@ pub extern "C" fn ricecrock_core(bytes: &[u8], seat: u8, time: u16, out: &mut [i
         ⌜ (r ≡ givenNumber (givenAnswer (coreAsked (buffer (length (now (out .entry)))) (readingOf (now (bytes .entry))) (record { 0 = seat }) (record { 0 = time }))))
         × (now (out .exit) ≡ into (coreAsked (buffer (length (now (out .entry)))) (readingOf (now (bytes .entry))) (record { 0 = seat }) (record { 0 = time })) (now (out .entry))) ⌝ }
 {
-    let given = core_of_bytes(bytes, Seat(seat), Time(time), out);
+    let given = core(bytes, Seat(seat), Time(time), out);
     given_number(given)
 }

@@ -1,5 +1,4 @@
 // The questions on what a carrier hands on: the record's refusal, or the question on the accepted record.
-use crate::loading::sizes_in;
 use farm::places::Seat;
 use farm::places::Time;
 use questions::agreed::ask_agreed;
@@ -15,10 +14,23 @@ use questions::views::ask_standing;
 use questions::views::ask_view_into;
 use questions::views::none_seen;
 use record::answers::Checked;
+use record::header::Header;
+use viewing::sizes::Sizes;
 ghost use mathlib.Core.Path.{_≡_};
 ghost use Rattle.questions.specs.Answers.{Fills, seenAnswer, standingAnswer};
+ghost use Rattle.carriers.specs.Loading.{sizesOf};
 ghost use Rattle.carriers.specs.Carried.{Loaded, Sized, viewFor, knownFor, coreFor, loserFor, agreedFor, marksFor};
 ghost use Rattle.questions.specs.Question.{byValue};
+
+fn sizes_in(header: Header) -> Sizes
+    ensures { λ r. ⌜ r ≡ sizesOf header ⌝ }
+{
+    Sizes {
+        seats: header.seats,
+        bound: header.bound,
+        rounds: header.rounds,
+    }
+}
 
 // What a seat has seen.
 pub fn seen_in(checked: Checked, losses: &[u16], seat: Seat, time: Time) -> Seen

@@ -6,8 +6,8 @@ use borrow.Author.Needs.{needs}
 use Rattle.bindings.proofs.seats.ricecrock_core.Statement.{statement}
 use Rattle.bindings.proofs.seats.ricecrock_core.Tie as tie
 
-core-of-bytes-requires : tie.Need-core-of-bytes-requires
-core-of-bytes-requires c κs = search needs
+core-requires : tie.Need-core-requires
+core-requires c κs = search needs
 
 given-number-requires : tie.Need-given-number-requires
 given-number-requires c κs = search needs
@@ -17,9 +17,9 @@ same-length c = search needs
 
 returns : tie.Need-returns
 returns c =
-    let asked = c .before .before .core-of-bytes .ensures in
+    let asked = c .before .before .core .ensures in
     (c .given-number .ensures ∙ ap givenNumber (asked .answered), asked .left)
 
 pub ricecrock-core-spec : {M : Type 1} → statement M
 ricecrock-core-spec =
-    tie.close (tie.spec core-of-bytes-requires given-number-requires same-length returns)
+    tie.close (tie.spec core-requires given-number-requires same-length returns)

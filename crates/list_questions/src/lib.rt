@@ -1,0 +1,2 @@
+// Questions about a record given as lists: the refusals of lists, then 8, 7, 9.
+pub mod asks; // asks.rt: the questions
