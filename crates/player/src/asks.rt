@@ -1,18 +1,22 @@
-// The questions that are answered by value. Each lends the table's parts, and its answer is printed.
-use crate::answers::say_count;
-use crate::answers::say_known;
-use crate::answers::say_settled;
-use crate::answers::say_standing;
+// Each question on a table by value: its parts are lent, and the answer is handed back.
 use farm::places::Seat;
 use farm::places::Time;
-use live::lent::count_from;
-use live::lent::known_from;
-use live::lent::settled_from;
-use live::lent::standing_from;
 use live::table::Table;
+use live_questions::lent::agreed_from;
+use live_questions::lent::core_from;
+use live_questions::lent::marks_from;
+use live_questions::lent::seen_from;
+use live_questions::lent::standing_from;
+use live_questions::lent::view_from;
+use live_questions::lent::write_from;
+use questions::answers::Agreed;
+use questions::answers::Given;
+use questions::answers::Seen;
+use questions::answers::Standing;
+use record::answers::Written;
 
-pub fn known(table: Table, seat: Seat, time: Time) {
-    say_known(known_from(
+pub fn seen_of(table: Table, seat: Seat, time: Time) -> Seen {
+    seen_from(
         &table.losses,
         &table.editors,
         &table.times,
@@ -24,11 +28,11 @@ pub fn known(table: Table, seat: Seat, time: Time) {
         table.edits,
         seat,
         time,
-    ));
+    )
 }
 
-pub fn settled(table: Table, seat: Seat, time: Time) {
-    say_settled(settled_from(
+pub fn agreed_of(table: Table, seat: Seat, time: Time) -> Agreed {
+    agreed_from(
         &table.losses,
         &table.editors,
         &table.times,
@@ -40,11 +44,26 @@ pub fn settled(table: Table, seat: Seat, time: Time) {
         table.edits,
         seat,
         time,
-    ));
+    )
 }
 
-pub fn count(table: Table, seat: Seat, time: Time) {
-    say_count(count_from(
+pub fn standing_of(table: Table, seat: Seat) -> Standing {
+    standing_from(
+        &table.losses,
+        &table.editors,
+        &table.times,
+        &table.cells,
+        &table.changes,
+        table.seats,
+        table.bound,
+        table.rounds,
+        table.edits,
+        seat,
+    )
+}
+
+pub fn view_of(table: Table, seat: Seat, time: Time, out: &mut [i16]) -> Given {
+    view_from(
         &table.losses,
         &table.editors,
         &table.times,
@@ -56,11 +75,12 @@ pub fn count(table: Table, seat: Seat, time: Time) {
         table.edits,
         seat,
         time,
-    ));
+        out,
+    )
 }
 
-pub fn loser(table: Table, seat: Seat) {
-    say_standing(standing_from(
+pub fn core_of(table: Table, seat: Seat, time: Time, out: &mut [i16]) -> Given {
+    core_from(
         &table.losses,
         &table.editors,
         &table.times,
@@ -71,5 +91,39 @@ pub fn loser(table: Table, seat: Seat) {
         table.rounds,
         table.edits,
         seat,
-    ));
+        time,
+        out,
+    )
+}
+
+pub fn marks_of(table: Table, seat: Seat, time: Time, out: &mut [u8]) -> Given {
+    marks_from(
+        &table.losses,
+        &table.editors,
+        &table.times,
+        &table.cells,
+        &table.changes,
+        table.seats,
+        table.bound,
+        table.rounds,
+        table.edits,
+        seat,
+        time,
+        out,
+    )
+}
+
+pub fn write_of(table: Table, out: &mut [u8]) -> Written {
+    write_from(
+        &table.losses,
+        &table.editors,
+        &table.times,
+        &table.cells,
+        &table.changes,
+        table.seats,
+        table.bound,
+        table.rounds,
+        table.edits,
+        out,
+    )
 }

@@ -1,32 +1,26 @@
 // The questions that are answered in a lent buffer. The buffer holds known numbers before the call, so
 // that the line shows which were written, and a refusal that wrote one is found out.
-use crate::lines::LONG_LINE;
-use crate::lines::SHORT_LINE;
-use crate::lines::put_hex;
-use crate::lines::put_number;
-use crate::lines::put_refused;
-use crate::lines::put_signed;
-use crate::lines::put_word;
-use crate::lines::say_line;
-use crate::rooms::within;
-use crate::widths::wide;
+use crate::asks::core_of;
+use crate::asks::marks_of;
+use crate::asks::view_of;
+use crate::asks::write_of;
+use crate::saying::say;
+use crate::saying::say_number;
+use crate::saying::say_refused;
+use crate::saying::say_signed;
+use crate::widths::within;
 use farm::places::Seat;
 use farm::places::Time;
 use farm::refusals::Refusal;
-use live::lent::core_into_from;
-use live::lent::marks_from;
-use live::lent::view_into_from;
-use live::lent::write_from;
+use libc::STDOUT_FILENO;
 use live::table::Table;
 use questions::answers::Given;
 use record::answers::Written;
 ghost use mathlib.Core.Path.{_≡_};
 ghost use lib.ListN.{length};
 
-// The most numbers of a view or core, the most marks and the most bytes of a record that are lent.
+// The most numbers of a view or core that are lent, and the most marks or bytes of a record.
 const MOST_TIMES: usize = 16;
-
-const MOST_MARKS: usize = 600;
 
 const MOST_BYTES: usize = 5_200;
 
@@ -57,209 +51,119 @@ fn times_before() -> [i16; MOST_TIMES]
     ]
 }
 
-// Whether two lists agree as far as both go.
-fn agree(some: &[i16], others: &[i16]) -> bool {
+// A refusal, and whether it changed what was lent, which never shows.
+fn say_verdict(refusal: Refusal, changed: bool) {
+    say_refused(refusal);
+    if changed {
+        say(b" changed");
+    }
+}
+
+// Whether two lists differ as far as both go.
+fn differ(some: &[i16], others: &[i16]) -> bool {
     let both = within(some.len(), others.len());
     let mut i = 0;
     while i < both {
         if some[i] != others[i] {
-            return false;
+            return true;
         }
         i += 1;
     }
-    true
+    false
 }
 
-fn are_as_before(times: &[i16]) -> bool {
-    let before = times_before();
-    agree(times, &before)
-}
-
-fn are_all(bytes: &[u8], byte: u8) -> bool {
-    let mut i = 0;
-    while i < bytes.len() {
-        if bytes[i] != byte {
-            return false;
-        }
-        i += 1;
-    }
-    true
-}
-
-// A refusal, and whether it changed what was lent, which never shows.
-fn put_verdict(out: &mut [u8], at: usize, refusal: Refusal, unchanged: bool) -> usize {
-    let end = put_refused(out, at, refusal);
-    if unchanged {
-        return end;
-    }
-    put_word(out, end, b" changed")
-}
-
-fn put_times(out: &mut [u8], at: usize, times: &[i16]) -> usize {
-    let mut place = at;
+fn say_times(times: &[i16]) {
     let mut i = 0;
     while i < times.len() {
-        place = put_signed(out, place, times[i]);
+        say_signed(times[i]);
         i += 1;
     }
-    place
 }
 
-fn say_times(word: &[u8], given: Given, times: &[i16]) {
-    let mut space = [0u8; SHORT_LINE];
-    let out: &mut [u8] = &mut space;
-    let at = put_word(out, 0, word);
-    let end = match given {
-        Given::Done => put_times(out, at, times),
-        Given::Refused(refusal) => put_verdict(out, at, refusal, are_as_before(times)),
+fn say_view(given: Given, times: &[i16]) {
+    match given {
+        Given::Done => say_times(times),
+        Given::Refused(refusal) => say_verdict(refusal, differ(times, &times_before())),
+    }
+}
+
+// A view or a core in a buffer of so many numbers.
+pub fn times(table: Table, is_core: bool, seat: Seat, time: Time, room: usize) {
+    let mut space = times_before();
+    let all: &mut [i16] = &mut space;
+    let length = within(room, all.len());
+    let lent: &mut [i16] = &mut all[0..length];
+    let given = if is_core {
+        core_of(table, seat, time, lent)
+    } else {
+        view_of(table, seat, time, lent)
     };
-    say_line(out, end);
+    say_view(given, lent);
 }
 
-fn view_in(table: Table, seat: Seat, time: Time, lent: &mut [i16]) {
-    let given = view_into_from(
-        &table.losses,
-        &table.editors,
-        &table.times,
-        &table.cells,
-        &table.changes,
-        table.seats,
-        table.bound,
-        table.rounds,
-        table.edits,
-        seat,
-        time,
-        lent,
-    );
-    say_times(b"view", given, lent);
-}
-
-pub fn view(table: Table, seat: Seat, time: Time, room: usize) {
-    let mut space = times_before();
-    let times: &mut [i16] = &mut space;
-    let length = within(room, times.len());
-    view_in(table, seat, time, &mut times[0..length]);
-}
-
-fn core_in(table: Table, seat: Seat, time: Time, lent: &mut [i16]) {
-    let given = core_into_from(
-        &table.losses,
-        &table.editors,
-        &table.times,
-        &table.cells,
-        &table.changes,
-        table.seats,
-        table.bound,
-        table.rounds,
-        table.edits,
-        seat,
-        time,
-        lent,
-    );
-    say_times(b"core", given, lent);
-}
-
-pub fn core(table: Table, seat: Seat, time: Time, room: usize) {
-    let mut space = times_before();
-    let times: &mut [i16] = &mut space;
-    let length = within(room, times.len());
-    core_in(table, seat, time, &mut times[0..length]);
-}
-
-fn put_marks(out: &mut [u8], at: usize, marks: &[u8]) -> usize {
-    let mut place = at;
+// Whether a byte has changed.
+fn changed(bytes: &[u8]) -> bool {
     let mut i = 0;
-    while i < marks.len() {
-        place = put_number(out, place, wide(marks[i]));
+    while i < bytes.len() {
+        if bytes[i] != BYTE_BEFORE {
+            return true;
+        }
         i += 1;
     }
-    place
+    false
 }
 
-fn say_marks(given: Given, marks: &[u8]) {
-    let mut space = [0u8; LONG_LINE];
-    let out: &mut [u8] = &mut space;
-    let at = put_word(out, 0, b"marks");
-    let end = match given {
-        Given::Done => put_marks(out, at, marks),
-        Given::Refused(refusal) => put_verdict(out, at, refusal, are_all(marks, BYTE_BEFORE)),
-    };
-    say_line(out, end);
+// A mark behind a blank, or a byte of a record in hexadecimal.
+fn say_byte(byte: u8, is_mark: bool) {
+    if is_mark {
+        say_number(byte as u64);
+    } else {
+        io::print_hex(STDOUT_FILENO, byte as u64, 2);
+    }
+}
+
+fn say_bytes(bytes: &[u8], are_marks: bool) {
+    let mut i = 0;
+    while i < bytes.len() {
+        say_byte(bytes[i], are_marks);
+        i += 1;
+    }
 }
 
 fn marks_in(table: Table, seat: Seat, time: Time, lent: &mut [u8]) {
-    let given = marks_from(
-        &table.losses,
-        &table.editors,
-        &table.times,
-        &table.cells,
-        &table.changes,
-        table.seats,
-        table.bound,
-        table.rounds,
-        table.edits,
-        seat,
-        time,
-        lent,
-    );
-    say_marks(given, lent);
+    let given = marks_of(table, seat, time, lent);
+    match given {
+        Given::Done => say_bytes(lent, true),
+        Given::Refused(refusal) => say_verdict(refusal, changed(lent)),
+    }
 }
 
 pub fn marks(table: Table, seat: Seat, time: Time, room: usize) {
-    let mut space = [BYTE_BEFORE; MOST_MARKS];
-    let bytes: &mut [u8] = &mut space;
-    let length = within(room, bytes.len());
-    marks_in(table, seat, time, &mut bytes[0..length]);
-}
-
-fn put_bytes(out: &mut [u8], at: usize, bytes: &[u8]) -> usize {
-    let mut place = at;
-    let mut i = 0;
-    while i < bytes.len() {
-        place = put_hex(out, place, wide(bytes[i]), 2);
-        i += 1;
-    }
-    place
+    let mut space = [BYTE_BEFORE; MOST_BYTES];
+    let all: &mut [u8] = &mut space;
+    let length = within(room, all.len());
+    marks_in(table, seat, time, &mut all[0..length]);
 }
 
 // The length of a record, and its bytes.
-fn put_record(out: &mut [u8], at: usize, length: usize, bytes: &[u8]) -> usize {
+fn say_record(length: usize, bytes: &[u8]) {
     let end = within(length, bytes.len());
-    let after_length = put_number(out, at, end as u64);
-    let after_blank = put_word(out, after_length, b" ");
-    put_bytes(out, after_blank, &bytes[0..end])
-}
-
-fn say_record(written: Written, bytes: &[u8]) {
-    let mut space = [0u8; LONG_LINE];
-    let out: &mut [u8] = &mut space;
-    let at = put_word(out, 0, b"record");
-    let end = match written {
-        Written::Length(length) => put_record(out, at, length, bytes),
-        Written::Refused(refusal) => put_verdict(out, at, refusal, are_all(bytes, BYTE_BEFORE)),
-    };
-    say_line(out, end);
+    say_number(end as u64);
+    say(b" ");
+    say_bytes(&bytes[0..end], false);
 }
 
 fn record_in(table: Table, lent: &mut [u8]) {
-    let written = write_from(
-        &table.losses,
-        &table.editors,
-        &table.times,
-        &table.cells,
-        &table.changes,
-        table.seats,
-        table.bound,
-        table.rounds,
-        table.edits,
-        lent,
-    );
-    say_record(written, lent);
+    let written = write_of(table, lent);
+    match written {
+        Written::Length(length) => say_record(length, lent),
+        Written::Refused(refusal) => say_verdict(refusal, changed(lent)),
+    }
 }
 
 pub fn record(table: Table, room: usize) {
     let mut space = [BYTE_BEFORE; MOST_BYTES];
-    let bytes: &mut [u8] = &mut space;
-    let length = within(room, bytes.len());
-    record_in(table, &mut bytes[0..length]);
+    let all: &mut [u8] = &mut space;
+    let length = within(room, all.len());
+    record_in(table, &mut all[0..length]);
 }

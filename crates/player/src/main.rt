@@ -6,21 +6,18 @@
 //   known SEAT TIME · settled SEAT TIME · count SEAT TIME · loser SEAT
 //   fresh · alter FIELD INDEX VALUE · table (the host's hand on its table, and the table's checksum)
 // tests/independent/FORMATS.md has the format in full.
-mod answers; // answers.rt: the lines of answers by value
-mod asks; // asks.rt: questions answered by value
-mod calls; // calls.rt: calls that change the table
+mod asks; // asks.rt: a question on a table by value
 mod checksum; // checksum.rt: the table's checksum
 mod lent; // lent.rt: questions answered in a lent buffer
-mod lines; // lines.rt: words and numbers on output
 mod parsing; // parsing.rt: a line's word and numbers
 mod playing; // playing.rt: a line, played
-mod rooms; // rooms.rt: lengths that fit a buffer
+mod saying; // saying.rt: words and numbers on output
 mod scribble; // scribble.rt: the host's own hand on its table
 mod widths; // widths.rt: numbers cut to a width
 
 use crate::playing::play;
-use crate::rooms::within;
 use crate::scribble::untouched;
+use crate::widths::within;
 use libc::STDIN_FILENO;
 use live::table::Table;
 

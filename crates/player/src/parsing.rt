@@ -6,24 +6,6 @@ ghost use lib.ListN.{length};
 // The most numbers of a line that are looked at.
 pub const MOST_NUMBERS: usize = 16;
 
-pub enum Word {
-    Fresh,
-    Open,
-    Round,
-    Edit,
-    View,
-    Known,
-    Settled,
-    Core,
-    Marks,
-    Count,
-    Loser,
-    Record,
-    Alter,
-    Table,
-    Unknown,
-}
-
 // The numbers of a line, each cut to 32 bits, and how many there are.
 pub struct Numbers {
     pub values: [u32; MOST_NUMBERS],
@@ -49,8 +31,11 @@ fn with_letter(code: u64, letter: u8) -> u64 {
     code % 0x0100_0000_0000_0000 * 256 + letter as u64
 }
 
-// A word as a number: its length and its letters, a byte each.
-fn letters(word: &[u8]) -> u64 {
+// A word as a number: its length and its letters, a byte each. One too long to be a call's is 0.
+pub fn letters(word: &[u8]) -> u64 {
+    if 7 < word.len() {
+        return 0;
+    }
     let mut code = word.len() as u64;
     let mut i = 0;
     while i < word.len() {
@@ -60,27 +45,38 @@ fn letters(word: &[u8]) -> u64 {
     code
 }
 
-pub fn word_of(word: &[u8]) -> Word {
-    if 7 < word.len() {
-        return Word::Unknown;
-    }
-    let code = letters(word);
-    match code {
-        0x05_66_72_65_73_68 => Word::Fresh,
-        0x04_6f_70_65_6e => Word::Open,
-        0x05_72_6f_75_6e_64 => Word::Round,
-        0x04_65_64_69_74 => Word::Edit,
-        0x04_76_69_65_77 => Word::View,
-        0x05_6b_6e_6f_77_6e => Word::Known,
-        0x07_73_65_74_74_6c_65_64 => Word::Settled,
-        0x04_63_6f_72_65 => Word::Core,
-        0x05_6d_61_72_6b_73 => Word::Marks,
-        0x05_63_6f_75_6e_74 => Word::Count,
-        0x05_6c_6f_73_65_72 => Word::Loser,
-        0x06_72_65_63_6f_72_64 => Word::Record,
-        0x05_61_6c_74_65_72 => Word::Alter,
-        0x05_74_61_62_6c_65 => Word::Table,
-        _ => Word::Unknown,
+// Whether letters are those of a call's word.
+pub fn is_call(word: u64) -> bool {
+    match word {
+        // fresh
+        0x05_66_72_65_73_68 => true,
+        // open
+        0x04_6f_70_65_6e => true,
+        // round
+        0x05_72_6f_75_6e_64 => true,
+        // edit
+        0x04_65_64_69_74 => true,
+        // view
+        0x04_76_69_65_77 => true,
+        // known
+        0x05_6b_6e_6f_77_6e => true,
+        // settled
+        0x07_73_65_74_74_6c_65_64 => true,
+        // core
+        0x04_63_6f_72_65 => true,
+        // marks
+        0x05_6d_61_72_6b_73 => true,
+        // count
+        0x05_63_6f_75_6e_74 => true,
+        // loser
+        0x05_6c_6f_73_65_72 => true,
+        // record
+        0x06_72_65_63_6f_72_64 => true,
+        // alter
+        0x05_61_6c_74_65_72 => true,
+        // table
+        0x05_74_61_62_6c_65 => true,
+        _ => false,
     }
 }
 

@@ -1,8 +1,11 @@
-// Numbers cut to the width of a parameter or a field, by remainder. A number of a script is kept as 32
-// bits, and one below zero as 2^32 less what stands behind its sign.
+// Numbers cut to the width of a parameter or a field, by remainder, and lengths cut to a buffer's. A number
+// of a script is kept as 32 bits, and one below zero as 2^32 less what stands behind its sign.
+ghost use Prim.Native.Nat.{_≤_};
 
-pub fn wide(value: u8) -> u64 {
-    value as u64
+pub fn within(length: usize, room: usize) -> usize
+    ensures { λ r. ⌜ (r ≤ length) × (r ≤ room) ⌝ }
+{
+    if length < room { length } else { room }
 }
 
 pub fn to_u8(value: u32) -> u8 {
