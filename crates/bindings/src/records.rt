@@ -1,41 +1,30 @@
 // A record between bytes and tables: both ways, for a host in C. What does not fit a number as the result
 // goes behind a reference, and stays as it was where the call is refused.
-use crate::codes::checked_number;
-use crate::codes::written_number;
+use farm::refusals::number;
 use reading::tables::read;
 use record::answers::Checked;
 use record::answers::Written;
 use writing::lists::write;
 ghost use mathlib.Core.Path.{_≡_};
-ghost use lib.ListN.{length};
-ghost use Rattle.farm.specs.Limits.{limits};
 ghost use Rattle.record.specs.Writing.{listsOf};
-ghost use Rattle.record.specs.Answers.{writtenIn};
-ghost use Rattle.record.specs.Answers.{checkedOf};
-ghost use Rattle.record.specs.Tables.{tables, readInto, TablesRead};
-ghost use Rattle.record.specs.Writing.{writtenTo, bufferAfter};
-ghost use Rattle.bindings.specs.Codes.{checkedNumber, headerLeft, writtenNumber, lengthLeft};
+ghost use Rattle.record.specs.Tables.{tables};
+ghost use Rattle.bindings.specs.Codes.{ReadTold, WriteTold, checkedNumber, headerLeft};
 
-// The header of a good record; a refusal leaves the numbers as they are.
-fn put_header(header: &mut [u16; 4], checked: Checked)
-    ensures { λ _. ⌜ now (header .exit) ≡ headerLeft checked (now (header .entry)) ⌝ }
+// The header of a good record, and 0; a refusal leaves the numbers as they are.
+fn tell_header(checked: Checked, header: &mut [u16; 4]) -> u8
+    ensures { λ r. ⌜ (r ≡ checkedNumber checked) × (now (header .exit) ≡ headerLeft checked (now (header .entry))) ⌝ }
 {
-    if let Checked::Good(from) = checked {
-        *header = [
-            from.seats as u16,
-            from.bound as u16,
-            from.rounds,
-            from.edits,
-        ];
-    }
-}
-
-// The length of what was written; a refusal leaves the number as it is.
-fn put_length(length: &mut usize, answer: Written)
-    ensures { λ _. ⌜ now (length .exit) ≡ lengthLeft answer (now (length .entry)) ⌝ }
-{
-    if let Written::Length(count) = answer {
-        *length = count;
+    match checked {
+        Checked::Good(from) => {
+            *header = [
+                from.seats as u16,
+                from.bound as u16,
+                from.rounds,
+                from.edits,
+            ];
+            0
+        }
+        Checked::Refused(refusal) => number(refusal),
     }
 }
 
@@ -51,13 +40,10 @@ pub extern "C" fn ricecrock_read(
     header: &mut [u16; 4],
 ) -> u8
     ensures { λ r.
-        ⌜ (r ≡ checkedNumber (checkedOf (readInto limits (tables (now (losses .entry)) (now (seats .entry)) (now (times .entry)) (now (cells .entry)) (now (changes .entry))) (now (bytes .entry)))))
-        × (TablesRead (readInto limits (tables (now (losses .entry)) (now (seats .entry)) (now (times .entry)) (now (cells .entry)) (now (changes .entry))) (now (bytes .entry))) (tables (now (losses .entry)) (now (seats .entry)) (now (times .entry)) (now (cells .entry)) (now (changes .entry))) (tables (now (losses .exit)) (now (seats .exit)) (now (times .exit)) (now (cells .exit)) (now (changes .exit))))
-        × (now (header .exit) ≡ headerLeft (checkedOf (readInto limits (tables (now (losses .entry)) (now (seats .entry)) (now (times .entry)) (now (cells .entry)) (now (changes .entry))) (now (bytes .entry)))) (now (header .entry))) ⌝ }
+        ⌜ ReadTold (now (bytes .entry)) (tables (now (losses .entry)) (now (seats .entry)) (now (times .entry)) (now (cells .entry)) (now (changes .entry))) (now (header .entry)) r (tables (now (losses .exit)) (now (seats .exit)) (now (times .exit)) (now (cells .exit)) (now (changes .exit))) (now (header .exit)) ⌝ }
 {
     let checked = read(bytes, losses, seats, times, cells, changes);
-    put_header(header, checked);
-    checked_number(checked)
+    tell_header(checked, header)
 }
 
 // Writes the record that the lists are into a buffer, and its length behind the reference: 3, 10, 4, then edit
@@ -76,9 +62,7 @@ pub extern "C" fn ricecrock_write<'a>(
     written: &mut usize,
 ) -> u8
     ensures { λ r.
-        ⌜ (r ≡ writtenNumber (writtenIn (writtenTo limits seats bound rounds (listsOf (now (losses .entry)) (now (editors .entry)) (now (times .entry)) (now (cells .entry)) (now (changes .entry))) (length (now (out .entry))))))
-        × (now (out .exit) ≡ bufferAfter limits seats bound rounds (listsOf (now (losses .entry)) (now (editors .entry)) (now (times .entry)) (now (cells .entry)) (now (changes .entry))) (now (out .entry)))
-        × (now (written .exit) ≡ lengthLeft (writtenIn (writtenTo limits seats bound rounds (listsOf (now (losses .entry)) (now (editors .entry)) (now (times .entry)) (now (cells .entry)) (now (changes .entry))) (length (now (out .entry))))) (now (written .entry))) ⌝ }
+        ⌜ WriteTold seats bound rounds (listsOf (now (losses .entry)) (now (editors .entry)) (now (times .entry)) (now (cells .entry)) (now (changes .entry))) (now (out .entry)) (now (written .entry)) r (now (out .exit)) (now (written .exit)) ⌝ }
 {
     let answer = write(
         seats,
@@ -91,6 +75,11 @@ pub extern "C" fn ricecrock_write<'a>(
         changes,
         out,
     );
-    put_length(written, answer);
-    written_number(answer)
+    match answer {
+        Written::Length(length) => {
+            *written = length;
+            0
+        }
+        Written::Refused(refusal) => number(refusal),
+    }
 }

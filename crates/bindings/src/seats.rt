@@ -1,9 +1,10 @@
 // What a seat is told about a record, for a host in C. The record is given as bytes, and the answer goes into
 // a lent buffer, which stays as it was where the question is refused.
-use crate::codes::given_number;
 use byte_questions::asks::core;
 use farm::places::Seat;
 use farm::places::Time;
+use farm::refusals::number;
+use questions::answers::Given;
 ghost use mathlib.Core.Path.{_≡_};
 ghost use lib.ListN.{length};
 ghost use Rattle.record.specs.Document.{readingOf};
@@ -19,5 +20,8 @@ pub extern "C" fn ricecrock_core(bytes: &[u8], seat: u8, time: u16, out: &mut [i
         × (now (out .exit) ≡ into (coreAsked (buffer (length (now (out .entry)))) (readingOf (now (bytes .entry))) (record { 0 = seat }) (record { 0 = time })) (now (out .entry))) ⌝ }
 {
     let given = core(bytes, Seat(seat), Time(time), out);
-    given_number(given)
+    match given {
+        Given::Done => 0,
+        Given::Refused(refusal) => number(refusal),
+    }
 }

@@ -43,7 +43,7 @@ header-text h =
     (ascii " rounds") (blank ∷ decimal (h .rounds)) (ascii " edits") (blank ∷ decimal (h .edits)) (newline ∷ [])
 
 pub place-begins : (time : Time) (seat : Seat) (loser : Bool) → placeText time seat loser
-    ≡ decimal (time .0) ++ blank ∷ decimal (seat .0) ++ blank ∷ [] ++ standing loser
+    ≡ decimal (time .0) ++ blank ∷ decimal (seat .0) ++ blank ∷ standing loser
 unfolding placeText following
 place-begins time seat loser = simp (append-assoc, append-nil)
 

@@ -7,16 +7,19 @@ use native.Mathlib.Nat.{add-assoc, add-zero}
 use native.Mathlib.Numerals.{add-one}
 use mathlib.Core.Bool.{true, false}
 use lib.Dec.{leb}
-use lib.ListN.{length, take, drop, set, length-append, length-drop}
+use lib.ListN.{length, take, drop, set, length-append, length-drop, length-set}
 use lib.Seq.{length-take-le, take-at, drop-at, drop-append-add, drop-drop, set-split, take-set-le, paste-zero}
 use Rattle.lines.specs.Digits.{Text}
-use Rattle.lines.specs.Printing.{written, Puts, Prints, lineRoom}
+use Rattle.lines.specs.Printing.{written, Puts, PutsWithin, Prints, lineRoom}
 use Rattle.lines.specs.declared.printing.Printed.the-variants.{Length, NoRoom}
 
 -- A byte that is stored is a text of one byte.
 pub put-one : (buffer : List ℕ) (at byte : ℕ) → at < length buffer → set buffer at byte ≡ written (byte ∷ []) at buffer
 unfolding written
 put-one buffer at byte h = set-split buffer at byte h ∙ rw (append-assoc, add-one) refl
+
+pub puts-byte : (buffer : List ℕ) (at byte : ℕ) → at < length buffer → Puts (byte ∷ []) at buffer (set buffer at byte) (at + 1)
+puts-byte buffer at byte h = record { end = refl; bytes = put-one buffer at byte h }
 
 -- A byte that is stored before the text in front of it: what digits that are put from the last one ask for.
 pub put-last : (buffer : List ℕ) (at : ℕ) (a : Text) (byte : ℕ) → at + length a < length buffer
@@ -62,13 +65,43 @@ puts-then {a} {b} {at} {old = old} h first second = record {
   bytes = second .bytes ∙ rw (first .end, first .bytes) (written-then old at h a b);
 }
 
+-- Two bytes that are stored side by side.
+pub puts-two : (buffer : List ℕ) (at a b : ℕ) → at + 1 < length buffer
+    → Puts (a ∷ b ∷ []) at buffer (set (set buffer at a) (at + 1) b) (at + 2)
+puts-two buffer at a b h =
+    let second : at + 1 < length (set buffer at a) = simp length-set h in
+    let put = puts-then (omega arith) (puts-byte buffer at a (omega arith)) (puts-byte (set buffer at a) (at + 1) b second) in
+    record { end = refl; bytes = put .bytes }
+
+-- The same where they take at most so many bytes, and where the second one's length is told.
+pub within-then : {k m : ℕ} {a b : Text} {at middle end : ℕ} {old half new : List ℕ} → at ≤ length old
+    → PutsWithin k a at old half middle → PutsWithin m b middle half new end → PutsWithin (k + m) (a ++ b) at old new end
+within-then h first second = record {
+  puts = puts-then h (first .puts) (second .puts);
+  within = omega (arith, first .within, second .within);
+}
+
+pub then-told : {k : ℕ} {a b : Text} {at middle end : ℕ} {old half new : List ℕ} → at ≤ length old
+    → PutsWithin k a at old half middle → Puts b middle half new end → PutsWithin (k + length b) (a ++ b) at old new end
+then-told h first second = record {
+  puts = puts-then h (first .puts) second;
+  within = omega (arith, first .within, second .end);
+}
+
+pub told-then : {m : ℕ} {a b : Text} {at middle end : ℕ} {old half new : List ℕ} → at ≤ length old
+    → Puts a at old half middle → PutsWithin m b middle half new end → PutsWithin (length a + m) (a ++ b) at old new end
+told-then h first second = record {
+  puts = puts-then h first (second .puts);
+  within = omega (arith, first .end, second .within);
+}
+
 -- A line where there is room, and where there is none.
-pub prints : {text : Text} {at end : ℕ} {old new : List ℕ} → leb (at + lineRoom) (length old) ≡ true
-    → Puts text at old new end × (end ≤ at + lineRoom) → Prints text at old new (Length end)
-prints room put = record {
-  answered = rw room (ap Length (put .0 .end));
-  bytes = rw room (put .0 .bytes);
-  short = λ fits. omega (arith, put .0 .end);
+pub prints : {k : ℕ} {text : Text} {at end : ℕ} {old new : List ℕ} → leb (at + lineRoom) (length old) ≡ true → k ≤ lineRoom
+    → PutsWithin k text at old new end → Prints text at old new (Length end)
+prints room few put = record {
+  answered = rw room (ap Length (put .puts .end));
+  bytes = rw room (put .puts .bytes);
+  short = λ fits. omega (arith, few, put .puts .end, put .within);
 }
 
 pub prints-nothing : (text : Text) (at : ℕ) (buffer : List ℕ) → leb (at + lineRoom) (length buffer) ≡ false

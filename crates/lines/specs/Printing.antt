@@ -18,6 +18,11 @@ pub record Puts (text : Text) (at : ℕ) (old new : List ℕ) (answer : ℕ) : T
   pub end : answer ≡ at + length text
   pub bytes : new ≡ written text at old
 
+-- The same, in at most so many bytes.
+pub record PutsWithin (most : ℕ) (text : Text) (at : ℕ) (old new : List ℕ) (answer : ℕ) : Type 0 where
+  pub puts : Puts text at old new answer
+  pub within : answer ≤ at + most
+
 -- Room for any line. A line is refused where fewer bytes than this are left, however short it is.
 abbrev pub lineRoom : ℕ
 lineRoom = 96

@@ -3,4 +3,4 @@
 mod digits; // digits.rt: numbers in decimal
 mod fields; // fields.rt: what follows in a line, a blank before it
 pub mod printing; // printing.rt: the lines of the page
-mod words; // words.rt: bytes and words
+mod words; // words.rt: words

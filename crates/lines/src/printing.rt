@@ -5,7 +5,6 @@ use crate::fields::put_core;
 use crate::fields::put_field;
 use crate::fields::put_named;
 use crate::fields::put_signed_field;
-use crate::words::put_byte;
 use crate::words::put_word;
 use farm::places::Seat;
 use farm::places::Time;
@@ -15,7 +14,7 @@ ghost use Prim.Native.Nat.{_+_, _≤_};
 ghost use lib.Dec.{leb};
 ghost use lib.ListN.{length};
 ghost use Rattle.lines.specs.Lines.{headerLine, placeLine, overLine, refusedLine, placeText, standing};
-ghost use Rattle.lines.specs.Printing.{Puts, Prints, lineRoom};
+ghost use Rattle.lines.specs.Printing.{PutsWithin, Prints, lineRoom};
 
 // Room for any line, in bytes.
 pub const LINE_ROOM: usize = 96;
@@ -64,55 +63,16 @@ fn letter(loser: bool) -> u8
     if loser { b'L' } else { b'C' }
 }
 
-// How a line about a seat at a time begins, in at most eleven bytes.
+// How a line about a seat at a time begins.
 fn put_place(out: &mut [u8], at: usize, time: Time, seat: Seat, loser: bool) -> usize
-    requires { ⌜ at + 11 ≤ length (now out) ⌝ }
-    ensures { λ r. ⌜ Puts (placeText time seat loser) at (now (out .entry)) (now (out .exit)) r × (r ≤ at + 11) ⌝ }
+    requires { ⌜ at + 13 ≤ length (now out) ⌝ }
+    ensures { λ r. ⌜ PutsWithin 13 (placeText time seat loser) at (now (out .entry)) (now (out .exit)) r ⌝ }
 {
-    let after_time = put_number(out, at, time.0 as u32);
-    let after_seat = put_field(out, after_time, seat.0 as u32);
-    let after_blank = put_byte(out, after_seat, b' ');
-    put_byte(out, after_blank, letter(loser))
-}
-
-fn put_header_line(out: &mut [u8], header: HeaderLine) -> usize
-    requires { ⌜ lineRoom ≤ length (now out) ⌝ }
-    ensures { λ r. ⌜ Puts (headerLine header) 0 (now (out .entry)) (now (out .exit)) r × (r ≤ lineRoom) ⌝ }
-{
-    let seats = put_named(out, 0, b"seats", header.seats as u32);
-    let bound = put_named(out, seats, b" bound", header.bound as u32);
-    let rounds = put_named(out, bound, b" rounds", header.rounds as u32);
-    let edits = put_named(out, rounds, b" edits", header.edits as u32);
-    put_byte(out, edits, b'\n')
-}
-
-fn put_place_line(out: &mut [u8], at: usize, line: PlaceLine) -> usize
-    requires { ⌜ at + lineRoom ≤ length (now out) ⌝ }
-    ensures { λ r. ⌜ Puts (placeLine line) at (now (out .entry)) (now (out .exit)) r × (r ≤ at + lineRoom) ⌝ }
-{
-    let core = line.core;
-    let place = put_place(out, at, line.time, line.seat, line.loser);
-    let critical = put_signed_field(out, place, line.critical);
-    let steps = put_field(out, critical, line.steps as u32);
-    let numbers = put_core(out, steps, core, line.seats);
-    let count = put_field(out, numbers, line.count as u32);
-    put_byte(out, count, b'\n')
-}
-
-fn put_over_line(out: &mut [u8], at: usize, time: Time, seat: Seat, loser: bool) -> usize
-    requires { ⌜ at + lineRoom ≤ length (now out) ⌝ }
-    ensures { λ r. ⌜ Puts (overLine time seat loser) at (now (out .entry)) (now (out .exit)) r × (r ≤ at + lineRoom) ⌝ }
-{
-    let place = put_place(out, at, time, seat, loser);
-    put_word(out, place, b" over\n")
-}
-
-fn put_refused_line(out: &mut [u8], number: u8) -> usize
-    requires { ⌜ lineRoom ≤ length (now out) ⌝ }
-    ensures { λ r. ⌜ Puts (refusedLine number) 0 (now (out .entry)) (now (out .exit)) r × (r ≤ lineRoom) ⌝ }
-{
-    let word = put_named(out, 0, b"refused", number as u32);
-    put_byte(out, word, b'\n')
+    let after_time = put_number(out, at, time.0);
+    let after_seat = put_field(out, after_time, seat.0 as u16);
+    out[after_seat] = b' ';
+    out[after_seat + 1] = letter(loser);
+    after_seat + 2
 }
 
 // The first line of a page: seats, bound, rounds and edits.
@@ -122,7 +82,12 @@ pub fn header_line(header: HeaderLine, out: &mut [u8]) -> Printed
     if !has_room(out.len(), 0) {
         return Printed::NoRoom;
     }
-    Printed::Length(put_header_line(out, header))
+    let seats = put_named(out, 0, b"seats", header.seats as u16);
+    let bound = put_named(out, seats, b" bound", header.bound as u16);
+    let rounds = put_named(out, bound, b" rounds", header.rounds);
+    let edits = put_named(out, rounds, b" edits", header.edits);
+    out[edits] = b'\n';
+    Printed::Length(edits + 1)
 }
 
 // The line of a seat at a time, where the page ends so far.
@@ -132,7 +97,14 @@ pub fn place_line(line: PlaceLine, out: &mut [u8], at: usize) -> Printed
     if !has_room(out.len(), at) {
         return Printed::NoRoom;
     }
-    Printed::Length(put_place_line(out, at, line))
+    let core = line.core;
+    let place = put_place(out, at, line.time, line.seat, line.loser);
+    let critical = put_signed_field(out, place, line.critical);
+    let steps = put_field(out, critical, line.steps as u16);
+    let numbers = put_core(out, steps, core, line.seats);
+    let count = put_field(out, numbers, line.count);
+    out[count] = b'\n';
+    Printed::Length(count + 1)
 }
 
 // The line of a seat whose view shows more known seats than the bound, where the page ends so far.
@@ -142,7 +114,8 @@ pub fn over_line(time: Time, seat: Seat, loser: bool, out: &mut [u8], at: usize)
     if !has_room(out.len(), at) {
         return Printed::NoRoom;
     }
-    Printed::Length(put_over_line(out, at, time, seat, loser))
+    let place = put_place(out, at, time, seat, loser);
+    Printed::Length(put_word(out, place, b" over\n"))
 }
 
 // The one line of a page for a bad record, with the number of its refusal.
@@ -152,5 +125,7 @@ pub fn refused_line(number: u8, out: &mut [u8]) -> Printed
     if !has_room(out.len(), 0) {
         return Printed::NoRoom;
     }
-    Printed::Length(put_refused_line(out, number))
+    let refused = put_named(out, 0, b"refused", number as u16);
+    out[refused] = b'\n';
+    Printed::Length(refused + 1)
 }

@@ -1,16 +1,7 @@
-// Bytes and words, each put at a place of a lent buffer. The answer is the place after it.
-ghost use mathlib.Core.List.{[], _∷_};
-ghost use Prim.Native.Nat.{_+_, _≤_, _<_};
+// Words, each put at a place of a lent buffer. The answer is the place after it.
+ghost use Prim.Native.Nat.{_+_, _≤_};
 ghost use lib.ListN.{length};
 ghost use Rattle.lines.specs.Printing.{Puts};
-
-pub fn put_byte(out: &mut [u8], at: usize, byte: u8) -> usize
-    requires { ⌜ at < length (now out) ⌝ }
-    ensures { λ r. ⌜ Puts (byte ∷ []) at (now (out .entry)) (now (out .exit)) r ⌝ }
-{
-    out[at] = byte;
-    at + 1
-}
 
 pub fn put_word(out: &mut [u8], at: usize, word: &[u8]) -> usize
     requires { ⌜ at + length (now word) ≤ length (now out) ⌝ }

@@ -26,7 +26,7 @@ use Rattle.questions.proofs.AskLaws.{settled-valued}
 use Rattle.questions.proofs.TimeLaws.{length-times}
 use Rattle.lines.specs.Digits.{Text}
 use Rattle.lines.specs.Lines.{placeLine}
-use Rattle.lines.specs.Printing.{Puts, Prints, lineRoom}
+use Rattle.lines.specs.Printing.{PutsWithin, Prints, lineRoom}
 use Rattle.lines.specs.declared.printing.Printed.{Printed}
 use Rattle.lines.specs.declared.printing.Printed.the-variants.{Length}
 use Rattle.page.specs.Page.{lineOf, lineAt}
@@ -34,13 +34,13 @@ use Rattle.page.specs.Printing.{countFrom, endIn, lineFrom, lineGiven, l
 
 -- Where there is room, the line is put.
 pub printed-put : {text : Text} {at end : ℕ} {old new : List ℕ} {printed : Printed} → at + lineRoom ≤ length old
-    → Prints text at old new printed → end ≡ endIn printed → Puts text at old new end × (end ≤ at + lineRoom)
+    → Prints text at old new printed → end ≡ endIn printed → PutsWithin lineRoom text at old new end
 printed-put {text} {at} {end} {old} {printed = printed} room p e =
     let fits = le-leb (at + lineRoom) (length old) room in
     let short = p .short fits in
     let answer : printed ≡ Length (at + length text) = rw fits at (p .answered) in
     let ends : end ≡ at + length text = e ∙ ap endIn answer in
-    (record { end = ends; bytes = rw fits at (p .bytes) }, omega arith)
+    record { puts = record { end = ends; bytes = rw fits at (p .bytes) }; within = omega arith }
 
 -- Of the times past n none is printed.
 core-alone : (n : ℕ) (place : Agreed) (s : Settled) (ℓ : Time) (p : Seat) (loser : Bool)

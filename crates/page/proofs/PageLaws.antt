@@ -19,24 +19,23 @@ use Rattle.record.specs.Record.{Record, good, bad}
 use Rattle.record.specs.Tables.{Tables, seatsOf, timesOf}
 use Rattle.reading.specs.Outcome.{ReadOutcome}
 use Rattle.record.specs.Taking.{IsBytes}
-use Rattle.record.proofs.ColumnLaws.{length-seats, length-times}
 use Rattle.reading.proofs.ReadLaws.{Room}
 use Rattle.questions.specs.Accepted.{Accepted}
 use Rattle.questions.specs.Question.{countOf, farmOfRecord}
 use Rattle.carriers.specs.Loading.{sizesOf}
 use Rattle.questions.proofs.MarkLaws.{count-of-edits}
-use Rattle.carriers.proofs.RecordLaws.{bytes-bad, bytes-good, listed-few, places-left, read-count, read-edits, read-farm, read-seats, read-sizes, read-times}
+use Rattle.carriers.proofs.RecordLaws.{bytes-bad, bytes-good, places-left, read-count, read-edits, read-farm, read-seats, read-sizes, read-times}
 use Rattle.lines.specs.Digits.{Text}
 use Rattle.lines.specs.Lines.{headerLine, refusedLine}
-use Rattle.lines.specs.Printing.{Puts, Prints}
+use Rattle.lines.specs.Printing.{PutsWithin, Prints}
 use Rattle.lines.specs.declared.printing.Printed.{Printed}
 use Rattle.lines.specs.declared.printing.Printed.the-variants.{Length, NoRoom}
 use Rattle.page.specs.Page.{Counting, linesOf, numbersOf, pageOf, recordPage}
-use Rattle.page.specs.Printing.{PrintsPage, countFrom, pageRoom}
+use Rattle.page.specs.Printing.{Held, Holds, PrintsPage, countFrom, pageRead, pageRoom}
 
 -- ════ A record that was read into tables ════
 
-pub record Filled (bytes : List ℕ) (h : Header) (losses seats times : List ℕ) : Type 0 where
+record Filled (bytes : List ℕ) (h : Header) (losses seats times : List ℕ) : Type 0 where
   pub what : Record
   pub is : readingOf bytes ≡ good what
   pub header : what .header ≡ h
@@ -46,11 +45,9 @@ pub record Filled (bytes : List ℕ) (h : Header) (losses seats times : List ℕ
   pub farm : farmFor (sizesOf h) (take (h .seats * h .rounds) losses) ≡ farmOfRecord what
   pub editors : take (h .edits) seats ≡ seatsOf (what .edits)
   pub moments : take (h .edits) times ≡ timesOf (what .edits)
-  pub parallel : length (take (h .edits) times) ≡ length (take (h .edits) seats)
-  pub few : length (take (h .edits) seats) ≤ 512
 
 module _ (bytes : List ℕ) (before after : Tables) (r : Checked) (roomy : Room before) (o : ReadOutcome bytes before r after) where
-  pub read-good : (h : Header) → IsBytes bytes → r ≡ Good h → Filled bytes h (after .losses) (after .seats) (after .times)
+  read-good : (h : Header) → IsBytes bytes → r ≡ Good h → Filled bytes h (after .losses) (after .seats) (after .times)
   read-good h small e =
       let left = places-left bytes before after r roomy o in
       let w = bytes-good bytes r h small (left .0) e in
@@ -66,11 +63,9 @@ module _ (bytes : List ℕ) (before after : Tables) (r : Checked) (roomy : Room 
         farm = read-farm bytes h w (after .losses) (before .losses) (h .seats * h .rounds) (sizesOf h) (left .1) refl refl;
         editors = seats;
         moments = times;
-        parallel = ap length times ∙ length-times (w .what .edits) ∙ sym (length-seats (w .what .edits)) ∙ sym (ap length seats);
-        few = listed-few bytes h w (take (h .edits) (after .seats)) seats;
       }
 
-  pub read-bad : (x : Refusal) → r ≡ Refused x → readingOf bytes ≡ bad x
+  read-bad : (x : Refusal) → r ≡ Refused x → readingOf bytes ≡ bad x
   read-bad x e = bytes-bad bytes r x (places-left bytes before after r roomy o .0) e
 
 -- ════ Its page ════
@@ -80,7 +75,7 @@ counted : (w : Record) → countFrom (seatsOf (w .edits)) (timesOf (w .edits)) �
 unfolding countFrom
 counted w = fun-ext (λ core. sym (count-of-edits core (w .edits)))
 
-pub good-page : (bytes : List ℕ) (h : Header) (losses seats times : List ℕ) (f : Filled bytes h losses seats times)
+good-page : (bytes : List ℕ) (h : Header) (losses seats times : List ℕ) (f : Filled bytes h losses seats times)
     → headerLine (numbersOf h)
     ++ linesOf (farmFor (sizesOf h) (take (h .seats * h .rounds) losses)) (countFrom (take (h .edits) seats) (take (h .edits) times)) (suc (h .rounds))
     ≡ pageOf (readingOf bytes)
@@ -90,10 +85,50 @@ good-page bytes h losses seats times f =
     (ap (λ (counting : Counting). headerLine (numbersOf (f .what .header)) ++ linesOf (farmOfRecord (f .what)) counting (suc (f .what .header .rounds)))
     (counted (f .what)))
 
-pub bad-page : (bytes : List ℕ) (x : Refusal) (number : ℕ) → readingOf bytes ≡ bad x → number ≡ numberOf x
+bad-page : (bytes : List ℕ) (x : Refusal) (number : ℕ) → readingOf bytes ≡ bad x → number ≡ numberOf x
     → refusedLine number ≡ pageOf (readingOf bytes)
 unfolding pageOf
 bad-page bytes x number e en = rw (e, en)
+
+-- ════ What reading answered, and its page ════
+
+module _ (bytes : List ℕ) (before after : Tables) (r : Checked) (roomy : Room before) (o : ReadOutcome bytes before r after) (small : IsBytes bytes) where
+  held-as : 889 ≤ length (after .losses) → 512 ≤ length (after .seats) → 512 ≤ length (after .times) → (answer : Checked) → r ≡ answer
+      → Held answer (after .losses) (after .seats) (after .times)
+  held-as losses seats times (Good h) e =
+      let f = read-good bytes before after r roomy o h small e in
+      let sets = f .sets in
+      let edits = f .edits in
+      record { accepted = f .accepted; sets = omega arith; editors = omega arith; moments = omega arith; few = edits }
+  held-as losses seats times (Refused x) e = tt
+
+  page-as : (answer : Checked) → r ≡ answer → pageRead answer (after .losses) (after .seats) (after .times) ≡ pageOf (readingOf bytes)
+  unfolding pageRead
+  page-as (Good h) e =
+      good-page bytes h (after .losses) (after .seats) (after .times) (read-good bytes before after r roomy o h small e)
+  page-as (Refused x) e = bad-page bytes x (numberOf x) (read-bad bytes before after r roomy o x e) refl
+
+  -- The tables hold a good record, and the page of what reading answered is the record's.
+  pub read-found : 889 ≤ length (after .losses) → 512 ≤ length (after .seats) → 512 ≤ length (after .times)
+      → Held r (after .losses) (after .seats) (after .times)
+      × (pageRead r (after .losses) (after .seats) (after .times) ≡ pageOf (readingOf bytes))
+  read-found losses seats times = (held-as losses seats times r refl, page-as r refl)
+
+-- ════ The page of tables, by what reading answered ════
+
+module _ (r : Checked) (losses seats times : List ℕ) where
+  pub held-good : (h : Header) → r ≡ Good h → Held r losses seats times → Holds h losses seats times
+  held-good h e held = rw e at held
+
+  pub good-read : (h : Header) → r ≡ Good h → headerLine (numbersOf h)
+      ++ linesOf (farmFor (sizesOf h) (take (h .seats * h .rounds) losses)) (countFrom (take (h .edits) seats) (take (h .edits) times)) (suc (h .rounds))
+      ≡ pageRead r losses seats times
+  unfolding pageRead
+  good-read h e = rw e refl
+
+  pub bad-read : (x : Refusal) (number : ℕ) → r ≡ Refused x → number ≡ numberOf x → refusedLine number ≡ pageRead r losses seats times
+  unfolding pageRead
+  bad-read x number e en = rw (e, en) refl
 
 -- ════ What is left in the buffer ════
 
@@ -103,12 +138,16 @@ page-nowhere page buffer tight =
     record { answered = rw none; bytes = rw none; short = λ fits. let z : _≡_ {A = ℕ} 0 1 = cc in omega arith }
 
 pub page-put : {text page : Text} {end : ℕ} {old new : List ℕ} → pageRoom ≤ length old → text ≡ page
-    → Puts text 0 old new end × (end ≤ pageRoom) → PrintsPage page old new (Length end)
+    → PutsWithin pageRoom text 0 old new end → PrintsPage page old new (Length end)
 page-put {text} {end = end} {old} room same p =
-    let ends : end ≡ length text = omega (arith, p .0 .end) in
+    let ends : end ≡ length text = omega (arith, p .puts .end) in
     let fits = le-leb pageRoom (length old) room in
     rw (← same)
-    (record { answered = rw fits (ap Length ends); bytes = rw fits (p .0 .bytes); short = λ t. omega (arith, p .0 .end) })
+    (record { answered = rw fits (ap Length ends); bytes = rw fits (p .puts .bytes); short = λ t. omega (arith, ends, p .within) })
+
+-- The page of what was read is the record's.
+pub page-of : {text page : Text} {old new : List ℕ} {answer : Printed} → text ≡ page → PrintsPage text old new answer → PrintsPage page old new answer
+page-of same p = rw (← same) p
 
 pub page-printed : {text page : Text} {old new : List ℕ} {answer : Printed} → pageRoom ≤ length old → text ≡ page
     → Prints text 0 old new answer → PrintsPage page old new answer

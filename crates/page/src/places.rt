@@ -15,15 +15,13 @@ use questions::answers::Given;
 use viewing::sizes::Sizes;
 ghost use mathlib.Core.Path.{_≡_};
 ghost use Prim.Native.Nat.{suc, _+_, _≤_, _<_};
-ghost use lib.ListN.{length};
-ghost use Rattle.farm.specs.Limits.{limits};
+ghost use lib.Dec.{eqb};
+ghost use lib.ListN.{length, getD};
 ghost use Rattle.farm.specs.Sets.{bit};
-ghost use Rattle.viewing.specs.Counts.{counts, farmFor};
-ghost use Rattle.construction.specs.KnownSets.{knownSets};
-ghost use Rattle.questions.specs.Accepted.{Accepted};
-ghost use Rattle.lines.specs.Printing.{Puts, lineRoom};
+ghost use Rattle.viewing.specs.Counts.{farmFor};
+ghost use Rattle.lines.specs.Printing.{PutsWithin, lineRoom};
 ghost use Rattle.page.specs.Page.{linesAt, linesOf};
-ghost use Rattle.page.specs.Printing.{Ready, countFrom, endIn, lineFrom, lineIn, placeOf, timeRoom, timesRoom};
+ghost use Rattle.page.specs.Printing.{Follows, Ready, countFrom, endIn, lineFrom, lineIn, placeOf, timeRoom, timesRoom};
 
 // Where a line ends that was printed; it is asked of no other.
 pub fn end_of(printed: Printed) -> usize
@@ -65,8 +63,7 @@ fn put_line(
 ) -> usize
     requires { ⌜ at + lineRoom ≤ length (now out) ⌝ }
     ensures { λ r.
-        ⌜ Puts (lineIn place seats time seat (bit losers (seat .0))) at (now (out .entry)) (now (out .exit)) r
-        × (r ≤ at + lineRoom) ⌝ }
+        ⌜ PutsWithin lineRoom (lineIn place seats time seat (bit losers (seat .0))) at (now (out .entry)) (now (out .exit)) r ⌝ }
 {
     let loser = holds(losers, seat);
     let given = place.given;
@@ -75,6 +72,15 @@ fn put_line(
     }
     let line = line_of(place, seats, time, seat, loser);
     end_of(place_line(line, out, at))
+}
+
+// Whether two seats have one known set.
+fn share_known(known: KnownSets, one: Seat, other: Seat) -> bool
+    requires { ⌜ (one .0 < 7) × (other .0 < 7) ⌝ }
+    ensures { λ r. ⌜ r ≡ eqb (getD (known .of) (one .0) 0) (getD (known .of) (other .0) 0) ⌝ }
+{
+    let sets = known.of;
+    sets[one.0 as usize] == sets[other.0 as usize]
 }
 
 // What is asked of a seat's place, where that of the seat before is known. At one time it depends on
@@ -90,16 +96,10 @@ fn next_place<'a>(
     seat: Seat,
     time: Time,
 ) -> Agreed
-    requires { ⌜ Accepted sizes × (length (now times) ≡ length (now editors)) × (length (now editors) ≤ limits .mostEdits) ⌝ }
-    requires { ⌜ (before .0 < sizes .seats) × (seat .0 < sizes .seats) × (time .0 ≤ sizes .rounds) ⌝ }
-    requires { ⌜ known .of ≡ counts (sizes .seats) (knownSets (farmFor sizes (now losses)) time) ⌝ }
-    requires { ⌜ place ≡ placeOf sizes (now losses) (now editors) (now times) before time ⌝ }
+    requires { ⌜ Follows sizes (now losses) (now editors) (now times) (known .of) place before seat time ⌝ }
     ensures { λ r. ⌜ r ≡ placeOf sizes (now (losses .entry)) (now (editors .entry)) (now (times .entry)) seat time ⌝ }
 {
-    let sets = known.of;
-    let set_before = sets[before.0 as usize];
-    let set = sets[seat.0 as usize];
-    if set_before == set {
+    if share_known(known, before, seat) {
         return place;
     }
     ask_agreed(losses, editors, times, sizes, seat, time)
@@ -118,8 +118,7 @@ fn put_seats<'a>(
 ) -> usize
     requires { ⌜ Ready sizes (now losses) (now editors) (now times) losers × (time .0 ≤ sizes .rounds) × (at + timeRoom ≤ length (now out)) ⌝ }
     ensures { λ r.
-        ⌜ Puts (linesAt (farmFor sizes (now (losses .entry))) (countFrom (now (editors .entry)) (now (times .entry))) time (sizes .seats)) at (now (out .entry)) (now (out .exit)) r
-        × (r ≤ at + timeRoom) ⌝ }
+        ⌜ PutsWithin timeRoom (linesAt (farmFor sizes (now (losses .entry))) (countFrom (now (editors .entry)) (now (times .entry))) time (sizes .seats)) at (now (out .entry)) (now (out .exit)) r ⌝ }
 {
     let seats = sizes.seats;
     let known = known_sets(losses, sizes, time);
@@ -156,8 +155,7 @@ pub fn put_times<'a>(
 ) -> usize
     requires { ⌜ Ready sizes (now losses) (now editors) (now times) losers × (at + timesRoom ≤ length (now out)) ⌝ }
     ensures { λ r.
-        ⌜ Puts (linesOf (farmFor sizes (now (losses .entry))) (countFrom (now (editors .entry)) (now (times .entry))) (suc (sizes .rounds))) at (now (out .entry)) (now (out .exit)) r
-        × (r ≤ at + timesRoom) ⌝ }
+        ⌜ PutsWithin timesRoom (linesOf (farmFor sizes (now (losses .entry))) (countFrom (now (editors .entry)) (now (times .entry))) (suc (sizes .rounds))) at (now (out .entry)) (now (out .exit)) r ⌝ }
 {
     let times_in_all = sizes.rounds + 1;
     let mut end = at;

@@ -1,37 +1,51 @@
--- `bindings::pages::ricecrock_page` meets its contract: the number of what printing answers, and the page's length.
+-- `bindings::pages::ricecrock_page` meets its contract: the page's length and 0, or the number of the refusal.
 -- Assumes nothing.
-use mathlib.Core.Path.{_∙_, ap}
 use denote.Ref.{now}
 use borrow.Author.Needs.{needs}
-use Rattle.lines.specs.declared.printing.Printed.{Printed}
-use Rattle.bindings.specs.Codes.{printedNumber, pageLengthLeft}
+use Rattle.bindings.proofs.Told.{page-accepted, page-refused}
 use Rattle.bindings.proofs.pages.ricecrock_page.Statement.{statement}
 use Rattle.bindings.proofs.pages.ricecrock_page.Tie as tie
+
+abbrev start : tie.After-write-page → tie.Start
+start c = c .before .before .before .before
 
 write-page-requires : tie.Need-write-page-requires
 write-page-requires c κs = search needs
 
-put-page-length-requires : tie.Need-put-page-length-requires
-put-page-length-requires c κs = search needs
+enum-known-printed : tie.Need-enum-known-printed
+enum-known-printed c = search needs
 
-printed-number-requires : tie.Need-printed-number-requires
-printed-number-requires c κs = search needs
+enum-told : tie.Need-enum-told
+enum-told c = search needs
+
+number-requires : tie.Need-number-requires
+number-requires c κs = search needs
 
 same-length : tie.Need-same-length
 same-length c = search needs
 
 returns : tie.Need-returns
 returns c =
-    let page = c .before .before .before .before .before .write-page .ensures in
-    let old = now (c .before .before .before .before .before .before .before .before .before .args .count) in
-    (c .printed-number .ensures ∙ ap printedNumber (page .answered), page .bytes, c .before .put-page-length .ensures ∙ ap (λ (x : Printed). pageLengthLeft x old) (page .answered))
+    let page = c .before .before .before .before .before in
+    page-accepted _ _ _ _ (page .write-page .ensures) (now (start page .args .count)) _ (c .before .printed .given .1)
+
+same-length-2 : tie.Need-same-length-2
+same-length-2 c = search needs
+
+returns-2 : tie.Need-returns-2
+returns-2 c =
+    let page = c .before .before .before .before .before in
+    page-refused _ _ _ _ (page .write-page .ensures) (now (start page .args .count)) _ (c .before .enum-told .given .1) (c .number .ensures)
 
 pub ricecrock-page-spec : {M : Type 1} → statement M
 ricecrock-page-spec =
     tie.close
     (tie.spec
     write-page-requires
-    put-page-length-requires
-    printed-number-requires
+    enum-known-printed
+    enum-told
+    number-requires
     same-length
-    returns)
+    returns
+    same-length-2
+    returns-2)

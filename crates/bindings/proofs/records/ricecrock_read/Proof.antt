@@ -1,50 +1,43 @@
--- `bindings::records::ricecrock_read` meets its contract: the number of what reading answers, and its header.
+-- `bindings::records::ricecrock_read` meets its contract: what reading answers and leaves, and the header's numbers.
 -- Assumes nothing.
-use mathlib.Core.Path.{_∙_, ap}
-use denote.Ref.{now}
-use Rattle.record.specs.declared.answers.Checked.{Checked}
-use Rattle.bindings.specs.Codes.{checkedNumber, headerLeft}
 use borrow.Author.Needs.{needs}
+use Rattle.bindings.proofs.Told.{read-told}
 use Rattle.bindings.proofs.records.ricecrock_read.Statement.{statement}
 use Rattle.bindings.proofs.records.ricecrock_read.Tie as tie
+
+abbrev read : tie.After-tell-header → tie.After-read
+read c = c .before .before .before .before .before .before .before .before .before .before .before
 
 read-requires : tie.Need-read-requires
 read-requires c κs = search needs
 
-put-header-requires : tie.Need-put-header-requires
-put-header-requires c κs = search needs
-
-checked-number-requires : tie.Need-checked-number-requires
-checked-number-requires c κs = search needs
+tell-header-requires : tie.Need-tell-header-requires
+tell-header-requires c κs = search needs
 
 same-length : tie.Need-same-length
-same-length c = search needs
+same-length c = read c .read .kept .1 .0
 
 same-length-2 : tie.Need-same-length-2
-same-length-2 c = search needs
+same-length-2 c = read c .read .kept .1 .1 .0
 
 same-length-3 : tie.Need-same-length-3
-same-length-3 c = search needs
+same-length-3 c = read c .read .kept .1 .1 .1 .0
 
 same-length-4 : tie.Need-same-length-4
-same-length-4 c = search needs
+same-length-4 c = read c .read .kept .1 .1 .1 .1 .0
 
 same-length-5 : tie.Need-same-length-5
-same-length-5 c = search needs
+same-length-5 c = read c .read .kept .1 .1 .1 .1 .1 .0
 
 returns : tie.Need-returns
-returns c =
-    let read = c .before .before .before .before .before .before .before .before .before .before .before .before .read .ensures in
-    let old = now (c .before .before .before .before .before .before .before .before .before .before .before .before .before .before .before .before .before .before .before .before .before .before .before .args .header) in
-    (c .checked-number .ensures ∙ ap checkedNumber (read .answered), read .left, c .before .put-header .ensures ∙ ap (λ (x : Checked). headerLeft x old) (read .answered))
+returns c = read-told (read c .read .ensures) (c .tell-header .ensures)
 
 pub ricecrock-read-spec : {M : Type 1} → statement M
 ricecrock-read-spec =
     tie.close
     (tie.spec
     read-requires
-    put-header-requires
-    checked-number-requires
+    tell-header-requires
     same-length
     same-length-2
     same-length-3

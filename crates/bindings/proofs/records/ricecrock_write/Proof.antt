@@ -1,32 +1,52 @@
--- `bindings::records::ricecrock_write` meets its contract: the number of what writing answers, and the length.
+-- `bindings::records::ricecrock_write` meets its contract: the record's length and 0, or the number of the refusal.
 -- Assumes nothing.
-use mathlib.Core.Path.{_∙_, ap}
 use denote.Ref.{now}
-use Rattle.record.specs.declared.answers.Written.{Written}
-use Rattle.bindings.specs.Codes.{writtenNumber, lengthLeft}
 use borrow.Author.Needs.{needs}
+use Rattle.bindings.proofs.Told.{write-accepted, write-refused}
 use Rattle.bindings.proofs.records.ricecrock_write.Statement.{statement}
 use Rattle.bindings.proofs.records.ricecrock_write.Tie as tie
+
+abbrev start : tie.After-write → tie.Start
+start c = c .before .before .before .before .before .before .before
 
 write-requires : tie.Need-write-requires
 write-requires c κs = search needs
 
-put-length-requires : tie.Need-put-length-requires
-put-length-requires c κs = search needs
+enum-known-answer : tie.Need-enum-known-answer
+enum-known-answer c = search needs
 
-written-number-requires : tie.Need-written-number-requires
-written-number-requires c κs = search needs
+enum-known-answer-2 : tie.Need-enum-known-answer-2
+enum-known-answer-2 c = search needs
+
+number-requires : tie.Need-number-requires
+number-requires c κs = search needs
 
 same-length : tie.Need-same-length
 same-length c = search needs
 
 returns : tie.Need-returns
 returns c =
-    let put = c .before .before .before .before .before .write .ensures in
-    let old = now (c .before .before .before .before .before .before .before .before .before .before .before .before .args .written) in
-    (c .written-number .ensures ∙ ap writtenNumber (put .0), put .1, c .before .put-length .ensures ∙ ap (λ (x : Written). lengthLeft x old) (put .0))
+    let put = c .before .before .before .before .before in
+    write-accepted _ _ _ _ _ _ (put .write .result) (put .write .ensures) (now (start put .args .written)) _ (c .before .answer .given .1)
+
+same-length-2 : tie.Need-same-length-2
+same-length-2 c = search needs
+
+returns-2 : tie.Need-returns-2
+returns-2 c =
+    let told = c .before in
+    let put = told .before .before .before .before .before in
+    write-refused _ _ _ _ _ _ (put .write .result) (put .write .ensures) (now (start put .args .written)) _ _ (told .before .answer2 .given .1) (c .number .ensures)
 
 pub ricecrock-write-spec : {M : Type 1} → statement M
 ricecrock-write-spec =
     tie.close
-    (tie.spec write-requires put-length-requires written-number-requires same-length returns)
+    (tie.spec
+    write-requires
+    enum-known-answer
+    enum-known-answer-2
+    number-requires
+    same-length
+    returns
+    same-length-2
+    returns-2)

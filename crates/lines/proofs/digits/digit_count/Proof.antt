@@ -5,7 +5,7 @@ use Prim.Native.Nat.{_+_, _≤_}
 use native.Mathlib.Omega.{arith}
 use lib.ListN.{length}
 use Rattle.lines.specs.Digits.{decimal}
-use Rattle.lines.proofs.DigitLaws.{length-small, length-large, decimal-long, decimal-short-32}
+use Rattle.lines.proofs.DigitLaws.{length-small, length-large, decimal-long, decimal-short-16}
 use Rattle.lines.proofs.digits.digit_count.Statement.{statement}
 use Rattle.lines.proofs.digits.digit_count.Tie as tie
 
@@ -22,7 +22,7 @@ add-count : tie.Need-add-count Inv-loop μ-loop
 add-count c =
     let turn = c .before in
     let first = decimal-long (turn .loop .rest) in
-    let few = decimal-short-32 (turn .before .args .value) (omega arith) in
+    let few = decimal-short-16 (turn .before .args .value) (omega arith) in
     omega arith
 
 loop-less : tie.Need-loop-less Inv-loop μ-loop

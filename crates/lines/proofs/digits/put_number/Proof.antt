@@ -7,7 +7,7 @@ use native.Mathlib.Omega.{arith}
 use lib.ListN.{length, set, length-set}
 use Rattle.lines.specs.Digits.{decimal, digit}
 use Rattle.lines.specs.Printing.{written}
-use Rattle.lines.proofs.DigitLaws.{decimal-small, decimal-large, length-small, length-large, decimal-long}
+use Rattle.lines.proofs.DigitLaws.{decimal-small, decimal-large, length-small, length-large, decimal-long, decimal-short-16}
 use Rattle.lines.proofs.PrintLaws.{put-one, put-last}
 use Rattle.lines.proofs.digits.put_number.Statement.{statement}
 use Rattle.lines.proofs.digits.put_number.Tie as tie
@@ -16,11 +16,15 @@ abbrev Inv-loop : tie.InvT-loop
 Inv-loop out₀ at value end place₀ rest₀ out place rest =
     (place ≡ at + length (decimal rest))
     × (place ≤ end)
+    × (end ≤ length out)
     × (length out ≡ length out₀)
     × (written (decimal rest) at out ≡ written (decimal value) at out₀)
 
 abbrev μ-loop : tie.MeasureT-loop
 μ-loop out₀ at value end place₀ rest₀ out place rest = rest
+
+few : (c : tie.Start Inv-loop μ-loop) → length (decimal (c .args .value)) ≤ 5
+few c = decimal-short-16 (c .args .value) (c .fits .value .fits)
 
 -- A turn stores the last digit of what is left.
 turned : (out : List ℕ) (at rest place : ℕ) → 9 < rest → place ≡ at + length (decimal rest) → place ≤ length out
@@ -34,10 +38,12 @@ digit-count-requires : tie.Need-digit-count-requires Inv-loop μ-loop
 digit-count-requires c κs = tt
 
 add-end : tie.Need-add-end Inv-loop μ-loop
-add-end c = omega arith
+add-end c = let digits = few (c .before .before) in omega arith
 
 loop-holds : tie.Need-loop-holds Inv-loop μ-loop
-loop-holds c = (omega arith, omega arith, refl, refl)
+loop-holds c =
+    let digits = few (c .before .before) in
+    (omega arith, omega arith, omega arith, refl, refl)
 
 sub-place : tie.Need-sub-place Inv-loop μ-loop
 sub-place c =
@@ -65,7 +71,8 @@ loop-again c =
       omega arith,
       omega arith,
       simp length-set (turn .loop .inv .2),
-      turned (turn .loop .out) _ (turn .loop .rest) (turn .loop .place) (c .loop-test .taken) (turn .loop .inv .0) (omega arith) ∙ turn .loop .inv .3,
+      simp length-set (turn .loop .inv .3),
+      turned (turn .loop .out) _ (turn .loop .rest) (turn .loop .place) (c .loop-test .taken) (turn .loop .inv .0) (omega arith) ∙ turn .loop .inv .4,
     )
 
 cast-out-2 : tie.Need-cast-out-2 Inv-loop μ-loop
@@ -80,17 +87,21 @@ slice-write-out-2 c =
     omega arith
 
 same-length : tie.Need-same-length Inv-loop μ-loop
-same-length c = simp length-set (c .before .loop .inv .2)
+same-length c = simp length-set (c .before .loop .inv .3)
 
 returns : tie.Need-returns Inv-loop μ-loop
 returns c =
     let end = c .before in
     let small : end .loop .rest < 10 = omega arith in
     let one = length-small (end .loop .rest) small in
+    let digits = few (end .before .before .before) in
     record {
-      end = omega arith;
-      bytes = put-one (end .loop .out) _ (digit (end .loop .rest)) (omega arith)
-          ∙ rw (← decimal-small (end .loop .rest) small) (end .loop .inv .3);
+      puts = record {
+        end = omega arith;
+        bytes = put-one (end .loop .out) _ (digit (end .loop .rest)) (omega arith)
+            ∙ rw (← decimal-small (end .loop .rest) small) (end .loop .inv .4);
+      };
+      within = omega arith;
     }
 
 pub put-number-spec : {M : Type 1} → statement M

@@ -1,14 +1,13 @@
 -- `lines::digits::put_signed` meets its contract: the sign and the digits, or the digits alone. Assumes nothing.
-use mathlib.Core.Path.{_≡_, ap}
+use mathlib.Core.Path.{_≡_}
 use mathlib.Core.List.{[], _∷_, _++_}
-use Prim.Native.Nat.{_+_}
 use native.Mathlib.Omega.{arith}
 use borrow.Author.Needs.{needs}
-use lib.ListN.{length}
+use lib.ListN.{length-set}
 use mir.Syntax.{w16}
 use mir.ValLaws.{toZ-ofZ}
 use Rattle.lines.specs.Digits.{decimal, signed}
-use Rattle.lines.proofs.PrintLaws.{puts-then}
+use Rattle.lines.proofs.PrintLaws.{puts-byte, told-then}
 use Rattle.lines.proofs.SignLaws.{signed-below, signed-from}
 use Rattle.lines.proofs.digits.put_signed.Statement.{statement}
 use Rattle.lines.proofs.digits.put_signed.Tie as tie
@@ -29,42 +28,47 @@ from c =
 magnitude-requires : tie.Need-magnitude-requires
 magnitude-requires c κs = search needs
 
-put-byte-requires : tie.Need-put-byte-requires
-put-byte-requires c κs =
-    let text = ap length (below (c .before)) in
-    omega arith
+slice-write-out : tie.Need-slice-write-out
+slice-write-out c = let room = c .before .before .before .pre in omega arith
+
+add-put-number : tie.Need-add-put-number
+add-put-number c = search needs
 
 put-number-requires : tie.Need-put-number-requires
-put-number-requires c κs =
-    let text = ap length (below (c .before .before .before .before .before)) in
-    omega arith
+put-number-requires c κs = let room = c .before .before .before .before .pre in simp length-set (omega arith)
 
 same-length : tie.Need-same-length
-same-length c = search needs
+same-length c = simp length-set at (c .before .before .put-number .kept .0)
 
 returns : tie.Need-returns
 returns c =
-    let at-sign = c .before .before .before .before .before .before in
-    rw (below (at-sign .before .before))
-    (puts-then (omega arith) (at-sign .put-byte .ensures) (c .before .before .put-number .ensures))
+    let put = c .before .before in
+    let test = put .before .before in
+    let start = test .before .before .before in
+    let room = start .pre in
+    rw (below test)
+    (told-then (omega arith) (puts-byte (start .args .out .now) (start .args .at) 45 (omega arith)) (put .put-number .ensures))
 
 put-number-requires-2 : tie.Need-put-number-requires-2
-put-number-requires-2 c κs =
-    let text = ap length (from (c .before)) in
-    omega arith
+put-number-requires-2 c κs = let room = c .before .before .before .before .pre in omega arith
 
 same-length-2 : tie.Need-same-length-2
 same-length-2 c = search needs
 
 returns-2 : tie.Need-returns-2
-returns-2 c = rw (from (c .before .before .before .before)) (c .before .before .put-number2 .ensures)
+returns-2 c =
+    let put = c .before .before in
+    let number = put .put-number2 .ensures in
+    let few = number .within in
+    record { puts = rw (from (put .before .before)) (number .puts); within = omega arith }
 
 pub put-signed-spec : {M : Type 1} → statement M
 put-signed-spec =
     tie.close
     (tie.spec
     magnitude-requires
-    put-byte-requires
+    slice-write-out
+    add-put-number
     put-number-requires
     same-length
     returns

@@ -11,10 +11,9 @@ use mir.Syntax.{w16}
 use mir.Val.{SFits}
 use mir.ValLaws.{toZ-ofZ}
 use Rattle.lines.specs.Digits.{signed}
-use Rattle.lines.specs.Printing.{Puts}
+use Rattle.lines.specs.Printing.{PutsWithin}
 use Rattle.lines.specs.Words.{following}
 use Rattle.lines.proofs.PrintLaws.{puts-nothing, puts-then}
-use Rattle.lines.proofs.SignLaws.{signed-short}
 use Rattle.lines.proofs.WordLaws.{following-none, following-more, take-seven}
 use Rattle.lines.proofs.fields.put_core.Statement.{statement}
 use Rattle.lines.proofs.fields.put_core.Tie as tie
@@ -22,9 +21,8 @@ use Rattle.lines.proofs.fields.put_core.Tie as tie
 abbrev Inv-loop : tie.InvT-loop
 Inv-loop out₀ at seats core end place₀ seat₀ out place seat =
     (seat ≤ end)
-    × (place ≤ at + 7 * seat)
     × (length out ≡ length out₀)
-    × Puts (following (map signed (take seat core))) at out₀ out place
+    × PutsWithin (7 * seat) (following (map signed (take seat core))) at out₀ out place
 
 abbrev μ-loop : tie.MeasureT-loop
 μ-loop out₀ at seats core end place₀ seat₀ out place seat = end - seat
@@ -38,7 +36,9 @@ printed-requires : tie.Need-printed-requires Inv-loop μ-loop
 printed-requires c κs = tt
 
 loop-holds : tie.Need-loop-holds Inv-loop μ-loop
-loop-holds c = (omega arith, omega arith, refl, rw following-none (puts-nothing (c .before .before .args .out .now) (c .before .before .args .at)))
+loop-holds c =
+    let start = c .before .before .args in
+    (omega arith, refl, record { puts = rw following-none (puts-nothing (start .out .now) (start .at)); within = omega arith })
 
 mul-put-signed-field : tie.Need-mul-put-signed-field Inv-loop μ-loop
 mul-put-signed-field c = omega arith
@@ -47,10 +47,7 @@ array-copy-out-put-signed-field : tie.Need-array-copy-out-put-signed-field Inv-l
 array-copy-out-put-signed-field c = omega arith
 
 put-signed-field-requires : tie.Need-put-signed-field-requires Inv-loop μ-loop
-put-signed-field-requires c κs =
-    let fits = element c in
-    let short = signed-short _ fits in
-    rw (toZ-ofZ w16 _ fits) (omega arith)
+put-signed-field-requires c κs = omega arith
 
 add-seat : tie.Need-add-seat Inv-loop μ-loop
 add-seat c = omega arith
@@ -65,25 +62,23 @@ loop-again c =
     let start = turn .before .before .before in
     let core = start .args .t3 in
     let fits = element at-call in
-    let short = signed-short _ fits in
     let field = rw (toZ-ofZ w16 _ fits) at (c .before .before .put-signed-field .ensures) in
     let seven : length core ≡ 7 = start .good .1 .1 .0 .1 .0 .1 in
-    let put = puts-then (omega arith) (turn .loop .inv .3) field in (
+    let put = puts-then (omega arith) (turn .loop .inv .2 .puts) (field .puts) in (
       omega arith,
-      omega (arith, field .end),
-      c .before .before .put-signed-field .kept .0 ∙ turn .loop .inv .2,
-      rw (add-one, following-more core (turn .loop .seat) (omega arith)) put,
+      c .before .before .put-signed-field .kept .0 ∙ turn .loop .inv .1,
+      record { puts = rw (add-one, following-more core (turn .loop .seat) (omega arith)) put; within = omega arith },
     )
 
 same-length : tie.Need-same-length Inv-loop μ-loop
-same-length c = c .before .loop .inv .2
+same-length c = c .before .loop .inv .1
 
 returns : tie.Need-returns Inv-loop μ-loop
 returns c =
     let start = c .before .before .before .before in
     let seven : length (start .args .t3) ≡ 7 = start .good .1 .1 .0 .1 .0 .1 in
     let all : c .before .loop .seat ≡ min (start .args .seats) 7 = omega arith in
-    (rw (all, take-seven (start .args .t3) (start .args .seats) seven) at (c .before .loop .inv .3), omega arith)
+    record { puts = rw (all, take-seven (start .args .t3) (start .args .seats) seven) at (c .before .loop .inv .2 .puts); within = omega arith }
 
 pub put-core-spec : {M : Type 1} → statement M
 put-core-spec =

@@ -1,29 +1,23 @@
 -- `lines::fields::put_named` meets its contract: the name, and the field after it.
 -- Assumes nothing.
 use native.Mathlib.Omega.{arith}
-use lib.ListN.{length-append}
-use Rattle.lines.proofs.PrintLaws.{puts-then}
+use Rattle.lines.proofs.PrintLaws.{told-then}
 use borrow.Author.Needs.{needs}
 use Rattle.lines.proofs.fields.put_named.Statement.{statement}
 use Rattle.lines.proofs.fields.put_named.Tie as tie
 
 put-word-requires : tie.Need-put-word-requires
-put-word-requires c κs =
-    let room = simp length-append at (c .before .before .before .pre) in
-    omega arith
+put-word-requires c κs = search needs
 
 put-field-requires : tie.Need-put-field-requires
-put-field-requires c κs =
-    let room = simp length-append at (c .before .before .before .before .before .before .before .pre) in
-    omega arith
+put-field-requires c κs = search needs
 
 same-length : tie.Need-same-length
 same-length c = search needs
 
 returns : tie.Need-returns
 returns c =
-    let room = simp length-append at (c .before .before .before .before .before .before .before .before .before .before .pre) in
-    puts-then (omega arith) (c .before .before .before .before .before .before .put-word .ensures) (c .before .before .put-field .ensures)
+    told-then (omega arith) (c .before .before .before .before .before .before .put-word .ensures) (c .before .before .put-field .ensures)
 
 pub put-named-spec : {M : Type 1} → statement M
 put-named-spec = tie.close (tie.spec put-word-requires put-field-requires same-length returns)

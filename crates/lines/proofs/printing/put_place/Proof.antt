@@ -1,100 +1,93 @@
--- `lines::printing::put_place` meets its contract: four texts, one after the other, in at most 5, 4, 1 and 1 bytes.
+-- `lines::printing::put_place` meets its contract: two numbers and two bytes, each where the one before ends.
 -- Assumes nothing.
-use Prim.Native.Nat.{_≤_}
+use mathlib.Core.Path.{_∙_}
+use Prim.Native.Nat.{_+_, _≤_}
 use native.Mathlib.Omega.{arith}
 use borrow.Author.Needs.{needs}
-use lib.ListN.{length}
-use Rattle.lines.specs.Digits.{decimal}
-use Rattle.lines.proofs.DigitLaws.{decimal-short-8, decimal-short-16}
+use lib.ListN.{length, length-set}
+use Rattle.lines.specs.Words.{blank}
 use Rattle.lines.proofs.LineLaws.{place-begins}
-use Rattle.lines.proofs.PrintLaws.{puts-then}
+use Rattle.lines.proofs.PrintLaws.{puts-two, then-told, within-then}
 use Rattle.lines.proofs.printing.put_place.Statement.{statement}
 use Rattle.lines.proofs.printing.put_place.Tie as tie
 
 -- ════ The way back from a place of the code to the one before it ════
 
 abbrev start : tie.After-put-number → tie.Start
-start c = c .before .before .before .before
+start c = c .before .before .before
 
-abbrev time : tie.After-struct-known2 → tie.After-put-number
+abbrev time : tie.After-struct-known → tie.After-put-number
 time c = c .before .before .before .before
 
-abbrev seat : tie.After-put-byte → tie.After-put-field
-seat c = c .before .before .before .before
+abbrev seat : tie.After-letter → tie.After-put-field
+seat c = c .before .before .before
 
-abbrev blank : tie.After-letter → tie.After-put-byte
-blank c = c .before .before .before .before
+-- ════ Room that is left where a text ends ════
 
--- ════ Lengths ════
+time-room : (c : tie.After-put-number) → c .put-number .result + 8 ≤ length (c .put-number .last .0)
+time-room c =
+    let room = start c .pre in
+    let same = c .put-number .kept .0 in
+    let within = c .put-number .ensures .within in
+    omega arith
 
-time-short : (c : tie.After-struct-known) → length (decimal (c .before .before .before .args .time .0)) ≤ 5
-time-short c = decimal-short-16 _ (omega arith)
-
-seat-short : (c : tie.After-struct-known2) → length (decimal (start (time c) .args .seat .0)) ≤ 3
-seat-short c = decimal-short-8 _ (omega arith)
+seat-room : (c : tie.After-put-field) → c .put-field .result + 2 ≤ length (c .put-field .last .0)
+seat-room c =
+    let room = time-room (time (c .before)) in
+    let same = c .put-field .kept .0 in
+    let within = c .put-field .ensures .within in
+    omega arith
 
 -- ════ The answers ════
 
-cast-put-number : tie.Need-cast-put-number
-cast-put-number c = search needs
-
 put-number-requires : tie.Need-put-number-requires
-put-number-requires c κs = let t = time-short c in omega arith
+put-number-requires c κs = let room = c .before .before .pre in omega arith
 
 cast-put-field : tie.Need-cast-put-field
 cast-put-field c = search needs
 
 put-field-requires : tie.Need-put-field-requires
-put-field-requires c κs =
-    let s = seat-short c in
-    let t = time-short (time c .before) in
-    omega arith
+put-field-requires c κs = let room = time-room (time c) in omega arith
 
-put-byte-requires : tie.Need-put-byte-requires
-put-byte-requires c κs =
-    let before = c .before .before .before .before in
-    let s = seat-short before in
-    let t = time-short (time before .before) in
-    omega arith
+slice-write-out : tie.Need-slice-write-out
+slice-write-out c = let room = seat-room (c .before .before) in omega arith
 
 letter-requires : tie.Need-letter-requires
 letter-requires c κs = search needs
 
-put-byte-requires-2 : tie.Need-put-byte-requires-2
-put-byte-requires-2 c κs =
-    let before = seat (blank c) .before in
-    let s = seat-short before in
-    let t = time-short (time before .before) in
-    omega arith
+add-out : tie.Need-add-out
+add-out c = search needs
+
+slice-write-out-2 : tie.Need-slice-write-out-2
+slice-write-out-2 c = let room = seat-room (seat c) in simp length-set (omega arith)
+
+add-result : tie.Need-add-result
+add-result c = search needs
 
 same-length : tie.Need-same-length
-same-length c = search needs
+same-length c = simp length-set (seat c .put-field .kept .0 ∙ time (seat c .before) .put-number .kept .0)
 
 returns : tie.Need-returns
 returns c =
-    let last = c .before .before in
-    let at-letter = last .before in
-    let at-blank = blank at-letter in
-    let at-seat = seat at-blank in
+    let at-seat = seat c in
     let at-time = time (at-seat .before) in
-    let first = at-time .put-number .ensures in
-    let second = puts-then (omega arith) first (at-seat .put-field .ensures) in
-    let third = puts-then (omega arith) second (at-blank .put-byte .ensures) in
-    let fourth = puts-then (omega arith) third (last .put-byte2 .ensures) in
-    let s = seat-short (at-seat .before) in
-    let t = time-short (at-time .before) in
-    (rw (place-begins, ← at-letter .letter .ensures) fourth, omega arith)
+    let room = start at-time .pre in
+    let left = seat-room at-seat in
+    let two = within-then (omega arith) (at-time .put-number .ensures) (at-seat .put-field .ensures) in
+    let bytes = puts-two (at-seat .put-field .last .0) (at-seat .put-field .result) blank (c .letter .result) (omega arith) in
+    rw (place-begins, ← c .letter .ensures) (then-told (omega arith) two bytes)
 
 pub put-place-spec : {M : Type 1} → statement M
 put-place-spec =
     tie.close
     (tie.spec
-    cast-put-number
     put-number-requires
     cast-put-field
     put-field-requires
-    put-byte-requires
+    slice-write-out
     letter-requires
-    put-byte-requires-2
+    add-out
+    slice-write-out-2
+    add-result
     same-length
     returns)

@@ -7,8 +7,8 @@ use native.Mathlib.Omega.{arith}
 use lib.ListN.{length}
 use Rattle.knowledge.specs.Farm.{seat}
 use Rattle.viewing.specs.Counts.{farmFor}
-use Rattle.lines.specs.Printing.{Puts}
-use Rattle.lines.proofs.PrintLaws.{puts-nothing, puts-then}
+use Rattle.lines.specs.Printing.{PutsWithin}
+use Rattle.lines.proofs.PrintLaws.{puts-nothing, within-then}
 use Rattle.page.specs.Page.{linesAt}
 use Rattle.page.specs.Printing.{countFrom, placeOf}
 use Rattle.page.proofs.LineLaws.{line-at}
@@ -18,9 +18,8 @@ use Rattle.page.proofs.places.put_seats.Tie as tie
 abbrev Inv-loop : tie.InvT-loop
 Inv-loop losses editors times sizes losers time out₀ at seats known place₀ before₀ end₀ seat₀ out place before end p =
     (p ≤ seats)
-    × (end ≤ at + 96 * p)
     × (length out ≡ length out₀)
-    × Puts (linesAt (farmFor sizes losses) (countFrom editors times) time p) at out₀ out end
+    × PutsWithin (96 * p) (linesAt (farmFor sizes losses) (countFrom editors times) time p) at out₀ out end
     × (before < seats)
     × (place ≡ placeOf sizes losses editors times (seat before) time)
 
@@ -45,14 +44,23 @@ loop-holds c =
     let start = c .before .before .before .before .before .before in
     let a = start .args in
     let some = start .pre .0 .accepted .bound in
-    (omega arith, omega arith, refl, puts-nothing (a .out .now) (a .at), omega arith, c .ask-agreed .ensures)
+    (omega arith, refl, record { puts = puts-nothing (a .out .now) (a .at); within = omega arith }, omega arith, c .ask-agreed .ensures)
 
 next-place-requires : tie.Need-next-place-requires Inv-loop μ-loop
 next-place-requires c κs =
     let start = c .before .before .before .before .before .before .before .before in
     let ready = start .pre .0 in
     let inv = c .before .loop .inv in
-    ((ready .accepted, ready .parallel, ready .few), ((inv .4, c .loop-test .taken, start .pre .1), (c .before .before .before .known-sets .ensures, inv .5)))
+    record {
+      accepted = ready .accepted;
+      parallel = ready .parallel;
+      few = ready .few;
+      sets = c .before .before .before .known-sets .ensures;
+      behind = inv .3;
+      ahead = c .loop-test .taken;
+      early = start .pre .1;
+      asked = inv .4;
+    }
 
 put-line-requires : tie.Need-put-line-requires Inv-loop μ-loop
 put-line-requires c κs =
@@ -61,8 +69,8 @@ put-line-requires c κs =
     let most = start .pre .0 .accepted .seats in
     let room = start .pre .2 in
     let inv = inside .before .loop .inv in
-    let end = inv .1 in
-    let same = inv .2 in
+    let end = inv .2 .within in
+    let same = inv .1 in
     let less = inside .loop-test .taken in
     omega arith
 
@@ -90,13 +98,12 @@ loop-again c =
     let farm = farmFor (a .sizes) (a .losses .now) in
     let line = line-at farm (a .editors .now) (a .times .now) (a .losers) (a .time) (seat (inside .before .loop .seat)) (next .result) (start .pre .0 .all) less (start .pre .1) (next .ensures) in
     let room = start .pre .2 in
-    let end = inv .1 in
-    let longer = call .ensures .1 in
-    let put = puts-then (omega arith) (inv .3) (rw line at (call .ensures .0)) in
-    (omega arith, omega arith, call .kept .1 .1 .1 .1 .1 .0 ∙ inv .2, rw add-one put, less, next .ensures)
+    let put = within-then (omega arith) (inv .2) (rw line at (call .ensures)) in
+    let within = put .within in
+    (omega arith, call .kept .1 .1 .1 .1 .1 .0 ∙ inv .1, record { puts = rw add-one (put .puts); within = omega arith }, less, next .ensures)
 
 same-length : tie.Need-same-length Inv-loop μ-loop
-same-length c = c .before .loop .inv .2
+same-length c = c .before .loop .inv .1
 
 returns : tie.Need-returns Inv-loop μ-loop
 returns c =
@@ -104,10 +111,10 @@ returns c =
     let most = start .pre .0 .accepted .seats in
     let inv = c .before .loop .inv in
     let least = inv .0 in
-    let end = inv .1 in
+    let end = inv .2 .within in
     let past = c .loop-test .left in
     let all : c .before .loop .seat ≡ start .args .sizes .seats = omega arith in
-    (rw all at (inv .3), omega arith)
+    record { puts = rw all at (inv .2 .puts); within = omega arith }
 
 pub put-seats-spec : {M : Type 1} → statement M
 put-seats-spec =

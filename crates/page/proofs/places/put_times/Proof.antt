@@ -6,8 +6,8 @@ use native.Mathlib.Numerals.{add-one}
 use native.Mathlib.Omega.{arith}
 use lib.ListN.{length}
 use Rattle.viewing.specs.Counts.{farmFor}
-use Rattle.lines.specs.Printing.{Puts}
-use Rattle.lines.proofs.PrintLaws.{puts-nothing, puts-then}
+use Rattle.lines.specs.Printing.{PutsWithin}
+use Rattle.lines.proofs.PrintLaws.{puts-nothing, within-then}
 use Rattle.page.specs.Page.{linesOf}
 use Rattle.page.specs.Printing.{countFrom}
 use Rattle.page.proofs.places.put_times.Statement.{statement}
@@ -16,9 +16,8 @@ use Rattle.page.proofs.places.put_times.Tie as tie
 abbrev Inv-loop : tie.InvT-loop
 Inv-loop losses editors times sizes losers out₀ at times-in-all end₀ time₀ out end time =
     (time ≤ times-in-all)
-    × (end ≤ at + 672 * time)
     × (length out ≡ length out₀)
-    × Puts (linesOf (farmFor sizes losses) (countFrom editors times) time) at out₀ out end
+    × PutsWithin (672 * time) (linesOf (farmFor sizes losses) (countFrom editors times) time) at out₀ out end
 
 abbrev μ-loop : tie.MeasureT-loop
 μ-loop losses editors times sizes losers out₀ at times-in-all end₀ time₀ out end time = times-in-all - time
@@ -32,12 +31,16 @@ loop-holds : tie.Need-loop-holds Inv-loop μ-loop
 unfolding linesOf
 loop-holds c =
     let a = c .before .before .before .before .before .args in
-    (omega arith, omega arith, refl, puts-nothing (a .out .now) (a .at))
+    (omega arith, refl, record { puts = puts-nothing (a .out .now) (a .at); within = omega arith })
 
 put-seats-requires : tie.Need-put-seats-requires Inv-loop μ-loop
 put-seats-requires c κs =
     let start = c .before .before .before .before .before .before .before .before in
     let most = start .pre .0 .accepted .rounds in
+    let room = start .pre .1 in
+    let inv = c .before .before .loop .inv in
+    let same = inv .1 in
+    let end = inv .2 .within in
     (start .pre .0, omega arith, omega arith)
 
 add-time : tie.Need-add-time Inv-loop μ-loop
@@ -52,19 +55,23 @@ loop-again c =
     let call = c .before .before .put-seats in
     let turn = c .before .before .before .before .before in
     let start = turn .before .before .before .before .before .before in
-    let most = start .pre .0 .accepted .rounds in
-    let put = puts-then (omega arith) (turn .loop .inv .3) (call .ensures .0) in
-    (omega arith, omega arith, call .kept .1 .1 .1 .1 .1 .1 .0 ∙ turn .loop .inv .2, rw add-one put)
+    let room = start .pre .1 in
+    let inv = turn .loop .inv in
+    let put = within-then (omega arith) (inv .2) (call .ensures) in
+    let within = put .within in
+    (omega arith, call .kept .1 .1 .1 .1 .1 .1 .0 ∙ inv .1, record { puts = rw add-one (put .puts); within = omega arith })
 
 same-length : tie.Need-same-length Inv-loop μ-loop
-same-length c = c .before .loop .inv .2
+same-length c = c .before .loop .inv .1
 
 returns : tie.Need-returns Inv-loop μ-loop
 returns c =
     let start = c .before .before .before .before .before .before .before in
     let most = start .pre .0 .accepted .rounds in
+    let inv = c .before .loop .inv in
+    let end = inv .2 .within in
     let all : c .before .loop .time ≡ suc (start .args .sizes .rounds) = omega arith in
-    (rw all at (c .before .loop .inv .3), omega arith)
+    record { puts = rw all at (inv .2 .puts); within = omega arith }
 
 pub put-times-spec : {M : Type 1} → statement M
 put-times-spec =

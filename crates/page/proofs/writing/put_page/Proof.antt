@@ -4,8 +4,8 @@ use Prim.Native.Nat.{_≤_}
 use native.Mathlib.Omega.{arith}
 use borrow.Author.Needs.{needs}
 use Rattle.lines.specs.Lines.{headerLine}
-use Rattle.lines.specs.Printing.{Puts}
-use Rattle.lines.proofs.PrintLaws.{puts-then}
+use Rattle.lines.specs.Printing.{PutsWithin}
+use Rattle.lines.proofs.PrintLaws.{within-then}
 use Rattle.page.specs.Page.{numbersOf}
 use Rattle.page.proofs.LineLaws.{printed-put}
 use Rattle.page.proofs.writing.put_page.Statement.{statement}
@@ -16,8 +16,7 @@ start c = c .before .before .before .before .before .before .before .before .bef
 
 -- The first line is put.
 first : (c : tie.After-end-of)
-    → Puts (headerLine (numbersOf (start c .args .header))) 0 (start c .args .out .now) (c .before .before .before .header-line .last .1 .0) (c .end-of .result)
-    × (c .end-of .result ≤ 96)
+    → PutsWithin 96 (headerLine (numbersOf (start c .args .header))) 0 (start c .args .out .now) (c .before .before .before .header-line .last .1 .0) (c .end-of .result)
 first c = printed-put (let room = start c .pre .3 in omega arith) (c .before .before .before .header-line .ensures) (c .end-of .ensures)
 
 losers-by-requires : tie.Need-losers-by-requires
@@ -36,6 +35,8 @@ put-times-requires c κs =
     let losers = printed .before .before in
     let pre = start (c .before) .pre in
     let same = printed .header-line .kept .1 .0 in
+    let room = pre .3 in
+    let end = line .within in
     (record { accepted = pre .0; parallel = pre .1; few = pre .2; all = losers .losers-by .ensures }, omega arith)
 
 same-length : tie.Need-same-length
@@ -44,8 +45,7 @@ same-length c = search needs
 returns : tie.Need-returns
 returns c =
     let last = c .before .before in
-    let line = first (last .before .before) in
-    (puts-then (omega arith) (line .0) (last .put-times .ensures .0), omega arith)
+    within-then (omega arith) (first (last .before .before)) (last .put-times .ensures)
 
 pub put-page-spec : {M : Type 1} → statement M
 put-page-spec =
