@@ -6,6 +6,7 @@ use lib.IntN.{ℤ}
 use mathlib.Core.Bool.{Bool, true, false, _&&_}
 use Prim.Native.Nat.{ℕ, suc, _<_, _≤_}
 use native.Mathlib.Omega.{arith}
+use lib.Dec.{leb}
 use borrow.Author.Tests.{ltb-true, leb-true, lt-ltb, le-ltb, le-leb, lt-leb}
 use Rattle.farm.specs.Sets.{bit}
 use Rattle.farm.specs.declared.places.Seat.{Seat}
@@ -15,7 +16,7 @@ use Rattle.farm.proofs.Cases.{and-elim}
 use Rattle.knowledge.specs.Farm.{Farm, losers}
 use Rattle.knowledge.specs.Views.{viewOf, latestTimes}
 use Rattle.knowledge.specs.Known.{knownOf}
-use Rattle.knowledge.specs.Settled.{outcomeOf}
+use Rattle.knowledge.specs.Settled.{Settled, outcomeOf}
 use Rattle.knowledge.proofs.ViewLaws.{le-of-below}
 use Rattle.knowledge.proofs.ViewTheory.{view-past}
 use Rattle.questions.specs.declared.answers.Given.the-variants.{Done}
@@ -89,6 +90,21 @@ module _ (farm : Farm) (p : Seat) (ℓ : Time) where
       → settledIn (buffer entries) need farm p ℓ ≡ ofOutcome (outcomeOf farm p ℓ)
   unfolding settledIn provided fits
   settled-roomy entries need e roomy = rw (e, le-leb need entries roomy)
+
+  -- What is found has its room.
+  pub settled-fits : (entries need : ℕ) (s : Settled) → settledIn (buffer entries) need farm p ℓ ≡ found s → need ≤ entries
+  unfolding settledIn provided fits
+  settled-fits entries need s e = by (isPlace farm p ℓ) (leb need entries) refl e
+    where
+      by : (a b : Bool) → leb need entries ≡ b → provided a NoSuchPlace (provided b NoRoom (ofOutcome (outcomeOf farm p ℓ))) ≡ found s → need ≤ entries
+      by true true f g = leb-true need entries f
+      by true false f g = let z : _≡_ {A = ℕ} 0 1 = cc in absurd (omega arith)
+      by false b f g = let z : _≡_ {A = ℕ} 0 1 = cc in absurd (omega arith)
+
+  -- By value no room is wanted.
+  pub settled-unlent : settledIn byValue 0 farm p ℓ ≡ settledIn (buffer 0) 0 farm p ℓ
+  unfolding settledIn fits
+  settled-unlent = refl
 
   pub settled-valued : (need : ℕ) → isPlace farm p ℓ ≡ true → settledIn byValue need farm p ℓ ≡ ofOutcome (outcomeOf farm p ℓ)
   unfolding settledIn provided fits

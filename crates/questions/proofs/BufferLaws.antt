@@ -9,8 +9,8 @@ use lib.ListN.{length, take, drop, getD, set}
 use lib.Seq.{length-take-le, take-suc, take-all, drop-cons, set-at, append-snoc}
 use Rattle.farm.specs.declared.refusals.Refusal.{Refusal}
 use Rattle.questions.specs.declared.answers.Given.the-variants.{Done, Refused}
-use Rattle.questions.specs.Question.{Asked, found, refused}
-use Rattle.questions.specs.Answers.{laid, givenAnswer, into}
+use Rattle.questions.specs.Question.{Asked, found, refused, Lent, buffer}
+use Rattle.questions.specs.Answers.{Fills, laid}
 
 -- A buffer whose first i entries are new.
 abbrev pub laidTo : {A : Type 0} → ℕ → (new old : List A) → List A
@@ -31,10 +31,10 @@ laid-whole i new old now e en =
 
 -- ════ What a question leaves ════
 
-pub refused-buffer : {A : Type 0} (asked : Asked (List A)) (refusal : Refusal) (old : List A) → asked ≡ refused refusal
-    → (Refused refusal ≡ givenAnswer asked) × (old ≡ into asked old)
-refused-buffer asked refusal old e = rw e (refl, refl)
+pub refused-fills : {A : Type 0} (ask : Lent → Asked (List A)) (old : List A) (refusal : Refusal) → ask (buffer (length old)) ≡ refused refusal
+    → Fills ask old (Refused refusal) old
+refused-fills ask old refusal e = record { answered = rw e refl; left = rw e refl }
 
-pub found-buffer : {A : Type 0} (asked : Asked (List A)) (new old now : List A) → asked ≡ found new → now ≡ laid new old
-    → (Done ≡ givenAnswer asked) × (now ≡ into asked old)
-found-buffer asked new old now e en = rw e (refl, en)
+pub found-fills : {A : Type 0} (ask : Lent → Asked (List A)) (old now new : List A) → ask (buffer (length old)) ≡ found new → now ≡ laid new old
+    → Fills ask old Done now
+found-fills ask old now new e en = record { answered = rw e refl; left = rw e en }

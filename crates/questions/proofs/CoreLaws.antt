@@ -1,17 +1,21 @@
 -- The settled answer as the construction's code gives it, and what a core can hold: no place later than the time that was asked
 -- about, and no place of a seat that does not play.
 -- Assumes nothing.
-use mathlib.Core.Path.{_≡_, refl, sym, _∙_, ap}
+use mathlib.Core.Path.{_≡_, refl, sym, _∙_, ap, fun-ext}
+use mathlib.Core.Logic.{⊎-elim}
+use mathlib.Core.List.{List}
 use Prim.Native.Nat.{ℕ, _+_, _-_, _^_, _<_, _≤_}
 use native.Mathlib.Nat.{le-antisymm}
 use native.Mathlib.Omega.{arith}
+use lib.ListN.{length}
 use Rattle.farm.specs.Sets.{size}
 use Rattle.farm.specs.declared.places.Seat.{Seat}
 use Rattle.farm.specs.declared.places.Time.{Time}
 use Rattle.farm.specs.declared.refusals.Refusal.{Refusal}
 use Rattle.farm.specs.declared.refusals.Refusal.the-variants.{OverBound}
+use Rattle.farm.proofs.Cases.{less-or-not}
 use Rattle.knowledge.specs.Farm.{Farm, Place, IsSeat, seat, time, place}
-use Rattle.knowledge.specs.Views.{InView, itself, remembered, received, latestTimes}
+use Rattle.knowledge.specs.Views.{View, InView, itself, remembered, received, latestTimes}
 use Rattle.knowledge.specs.Settled.{Settled, Outcome, overBound, settled, IsOutcome, coreView, outcomeOf}
 use Rattle.knowledge.proofs.ViewLaws.{le-of-below, in-view-complete}
 use Rattle.knowledge.proofs.ViewTheory.{view-past}
@@ -19,19 +23,18 @@ use Rattle.knowledge.proofs.CriticalTime.{core-from}
 use Rattle.knowledge.proofs.ChainTheory.{stage-falls}
 use Rattle.knowledge.proofs.OutcomeTheory.{outcome-exists, answer-fixed}
 use mir.Syntax.{w16}
-use mir.Val.{SFits, toZ, ofZ}
-use mir.ValLaws.{toZ-ofZ}
-use Rattle.viewing.specs.Counts.{counts}
+use mir.Val.{SFits}
+use Rattle.viewing.specs.Counts.{counts, held, below, filled}
 use Rattle.construction.specs.Answers.{answerFor, settledFor}
 use Rattle.construction.specs.declared.settled.Settled as construction
 use Rattle.construction.specs.declared.settled.Answer.{Answer}
 use Rattle.construction.specs.declared.settled.Ruling.the-variants.{Answered, Refused}
+use Rattle.viewing.proofs.CountLaws.{getD-filled, below-out, getD-past}
 use Rattle.construction.proofs.SettleSteps.{minus-fits, critical-is}
-use Rattle.questions.specs.declared.answers.Summary.{Summary}
-use Rattle.questions.specs.Answers.{summaryOf}
+use Rattle.viewing.proofs.ViewSteps.{held-counts}
 use Rattle.questions.specs.Question.{Asked, found, refused, Lent, looking, ofOutcome, settledIn}
-use Rattle.questions.specs.Accepted.{InTime, coreIn}
-use Rattle.questions.proofs.TimeLaws.{counts-bound}
+use Rattle.questions.specs.Accepted.{InTime, Found, Settles, coreIn}
+use Rattle.questions.proofs.TimeLaws.{counts-bound, length-counts}
 
 -- ════ What a core can hold ════
 
@@ -122,18 +125,53 @@ core-in-limits farm fits p ℓ here early a r =
     counts-bound (farm .seats) (r .what .core) (a .settled .core .of) 128 (core-array farm p ℓ a r)
     (λ q. let e = core-in-time farm fits p ℓ here (r .what) (r .was) q in omega arith)
 
--- The code's summary: the critical time has gone through 16 bits.
-pub summary-is : (farm : Farm) → farm .bound < farm .seats → (p : Seat) (ℓ : Time) → IsSeat farm p → ℓ .0 < 2 ^ 15 → farm .bound + 1 < 2 ^ 15
-    → (a : Answer) (r : Ruled farm p ℓ a)
-    → _≡_ {A = Summary}
-    (record { critical = toZ w16 (ofZ w16 (a .settled .critical)); kept = a .settled .kept; steps = a .settled .steps })
-    (summaryOf (r .what))
-summary-is farm fits p ℓ here early low a r =
-    rw (r .is, toZ-ofZ w16 (r .what .critical) (critical-fits farm fits p ℓ here (r .what) (r .was) early low))
+-- ════ In a core that the code holds as an array ════
+
+held-past : (n : ℕ) (v : View) (q : ℕ) → n ≤ q → held (counts n v) q ≡ 0
+unfolding held counts filled
+held-past n v q h =
+    ⊎-elim (λ i. getD-filled 7 n v q i ∙ below-out n v q h) (λ o. getD-past 7 (below n v) q o) (less-or-not q 7)
+
+pub core-held : (farm : Farm) → farm .bound < farm .seats → farm .seats ≤ 7 → (p : Seat) (ℓ : Time) → IsSeat farm p
+    → (a : Answer) (r : Ruled farm p ℓ a) → held (a .settled .core .of) ≡ r .what .core
+core-held farm fits small p ℓ here a r =
+    fun-ext (λ q.
+    ap (λ (l : List ℕ). held l q) (core-array farm p ℓ a r)
+    ∙ ⊎-elim (held-counts (farm .seats) (r .what .core) q small)
+    (λ o. held-past (farm .seats) (r .what .core) q o ∙ sym (core-of-none farm fits p ℓ here (r .what) (r .was) q o))
+    (less-or-not q (farm .seats)))
 
 pub outcome-found : (o : Outcome) (s : Settled) → o ≡ settled s → ofOutcome o ≡ found s
 unfolding ofOutcome
 outcome-found o s e = rw e
+
+-- ════ What is settled at a place ════
+
+pub settled-not : (n : ℕ) (asked : Asked Settled) (x : Refusal) (a : Answer) → asked ≡ refused x → a .ruling ≡ Refused x → Settles n asked a
+settled-not n asked x a e f = record {
+  refuses = λ y g. let same : Refused x ≡ Refused y = sym f ∙ g in let which : x ≡ y = cc in e ∙ ap refused which;
+  answers = λ g. let same : Refused x ≡ Answered = sym f ∙ g in let z : _≡_ {A = ℕ} 0 1 = cc in absurd (omega arith);
+}
+
+pub settled-so : (farm : Farm) → farm .bound < farm .seats → farm .seats ≤ 7 → (p : Seat) (ℓ : Time) → IsSeat farm p → ℓ .0 ≤ 127
+    → (a : Answer) → a ≡ answerFor (farm .seats) (outcomeOf farm p ℓ) → (asked : Asked Settled) → asked ≡ ofOutcome (outcomeOf farm p ℓ)
+    → Settles (farm .seats) asked a
+settled-so farm fits small p ℓ here early a e asked same = record {
+  refuses = λ x f. same ∙ ruled-out farm p ℓ a e x f;
+  answers = λ f.
+      let r = ruled-in farm p ℓ a e f in
+      record {
+        what = r .what;
+        is = same ∙ outcome-found _ (r .what) (r .was);
+        coded = r .is;
+        core = core-held farm fits small p ℓ here a r;
+        early = core-in-limits farm fits p ℓ here early a r;
+      };
+}
+
+-- The core fills its array.
+pub core-long : (n : ℕ) (asked : Asked Settled) (s : construction.Settled) → Found n asked s → length (s .core .of) ≡ 7
+core-long n asked s f = length-counts n (f .what .core) (s .core .of) (ap (λ (x : construction.Settled). x .core .of) (f .coded))
 
 -- ════ What is looked at in a settled answer ════
 

@@ -28,7 +28,7 @@ use Rattle.record.specs.Tables.{seatsOf, timesOf}
 use Rattle.questions.specs.Marks.{markAt, marksIn, countIn}
 use Rattle.questions.specs.Question.{found, refused, Lent, inCore, marksOf, countOf, settledIn}
 use Rattle.questions.specs.Accepted.{marksOn}
-use Rattle.questions.proofs.CoreLaws.{Ruled, core-array, core-of-none, looked-refused, looked-found}
+use Rattle.questions.proofs.CoreLaws.{looked-refused, looked-found}
 
 -- ════ One mark ════
 
@@ -85,22 +85,6 @@ unfolding countIn
 count-end v seats times i count e h inv =
     let none : countIn v (drop i seats) (drop i times) ≡ 0 = rw (h, drop-length seats) in
     omega arith
-
--- ════ In a core that the code holds as an array ════
-
-held-past : (n : ℕ) (v : View) (q : ℕ) → n ≤ q → held (counts n v) q ≡ 0
-unfolding held counts filled
-held-past n v q h =
-    ⊎-elim (λ i. getD-filled 7 n v q i ∙ below-out n v q h) (λ o. getD-past 7 (below n v) q o) (less-or-not q 7)
-
-pub core-held : (farm : Farm) → farm .bound < farm .seats → farm .seats ≤ 7 → (p : Seat) (ℓ : Time) → IsSeat farm p
-    → (a : Answer) (r : Ruled farm p ℓ a) → held (a .settled .core .of) ≡ r .what .core
-core-held farm fits small p ℓ here a r =
-    fun-ext (λ q.
-    ap (λ (l : List ℕ). held l q) (core-array farm p ℓ a r)
-    ∙ ⊎-elim (held-counts (farm .seats) (r .what .core) q small)
-    (λ o. held-past (farm .seats) (r .what .core) q o ∙ sym (core-of-none farm fits p ℓ here (r .what) (r .was) q o))
-    (less-or-not q (farm .seats)))
 
 -- ════ The questions ════
 

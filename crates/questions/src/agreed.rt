@@ -4,10 +4,10 @@ use crate::answers::Agreed;
 use crate::answers::Given;
 use crate::answers::Summary;
 use crate::marks::count_marks;
+use crate::settling::settle_at;
 use crate::times::put_times;
-use crate::views::is_place;
 use construction::settled::Ruling;
-use construction::settled::settle;
+use construction::settled::Settled;
 use farm::places::Seat;
 use farm::places::Time;
 use farm::refusals::Refusal;
@@ -18,7 +18,7 @@ ghost use lib.ListN.{length};
 ghost use Rattle.farm.specs.Limits.{limits};
 ghost use Rattle.viewing.specs.Counts.{farmFor};
 ghost use Rattle.questions.specs.Question.{byValue, settledIn};
-ghost use Rattle.questions.specs.Accepted.{Accepted};
+ghost use Rattle.questions.specs.Accepted.{Accepted, InTime, agreedWith};
 ghost use Rattle.questions.specs.Answers.{agreedFrom, noneAgreed};
 
 // A place that is refused.
@@ -37,6 +37,25 @@ pub fn none_agreed(refusal: Refusal) -> Agreed
     }
 }
 
+// The parts of a settled answer, and how many edits are in its core.
+fn agreed_with<'a>(settled: Settled, seats: u8, editors: &'a [u8], times: &'a [u16]) -> Agreed
+    requires { ⌜ (seats ≤ limits .mostSeats) × InTime (settled .core .of) × (length (now times) ≡ length (now editors)) × (length (now editors) ≤ limits .mostEdits) ⌝ }
+    ensures { λ r. ⌜ r ≡ agreedWith seats settled (now (editors .entry)) (now (times .entry)) ⌝ }
+{
+    let mut latest: [i16; 7] = [-1; 7];
+    put_times(&settled.core.of, seats, &mut latest);
+    Agreed {
+        given: Given::Done,
+        summary: Summary {
+            critical: settled.critical,
+            kept: settled.kept,
+            steps: settled.steps,
+        },
+        latest,
+        count: count_marks(&settled.core.of, editors, times),
+    }
+}
+
 pub fn ask_agreed<'a>(
     losses: &'a [u16],
     editors: &'a [u8],
@@ -48,26 +67,10 @@ pub fn ask_agreed<'a>(
     requires { ⌜ Accepted sizes × (length (now times) ≡ length (now editors)) × (length (now editors) ≤ limits .mostEdits) ⌝ }
     ensures { λ r. ⌜ r ≡ agreedFrom (sizes .seats) (now (editors .entry)) (now (times .entry)) (settledIn byValue 0 (farmFor sizes (now (losses .entry))) seat time) ⌝ }
 {
-    if !is_place(sizes, seat, time) {
-        return none_agreed(Refusal::NoSuchPlace);
-    }
-    let answer = settle(losses, sizes, seat, time);
+    let answer = settle_at(losses, sizes, seat, time, 0, 0);
     let ruling = answer.ruling;
     if let Ruling::Refused(refusal) = ruling {
         return none_agreed(refusal);
     }
-    let settled = answer.settled;
-    let core = settled.core;
-    let mut latest: [i16; 7] = [-1; 7];
-    put_times(&core.of, sizes.seats, &mut latest);
-    Agreed {
-        given: Given::Done,
-        summary: Summary {
-            critical: settled.critical,
-            kept: settled.kept,
-            steps: settled.steps,
-        },
-        latest,
-        count: count_marks(&core.of, editors, times),
-    }
+    agreed_with(answer.settled, sizes.seats, editors, times)
 }

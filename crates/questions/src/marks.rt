@@ -1,12 +1,10 @@
 // Which edits of an accepted record are in a core: 8, then 7, then 9. An edit is in the core if its
 // place is.
 use crate::answers::Given;
-use crate::views::is_place;
+use crate::settling::settle_at;
 use construction::settled::Ruling;
-use construction::settled::settle;
 use farm::places::Seat;
 use farm::places::Time;
-use farm::refusals::Refusal;
 use viewing::sizes::Sizes;
 ghost use mathlib.Core.Path.{_≡_};
 ghost use Prim.Native.Nat.{_≤_};
@@ -14,9 +12,8 @@ ghost use lib.ListN.{length};
 ghost use Rattle.farm.specs.Limits.{limits};
 ghost use Rattle.viewing.specs.Counts.{farmFor, held};
 ghost use Rattle.questions.specs.Marks.{markAt, marksIn, countIn};
-ghost use Rattle.questions.specs.Question.{buffer};
 ghost use Rattle.questions.specs.Accepted.{Accepted, marksOn};
-ghost use Rattle.questions.specs.Answers.{laid, givenAnswer, into};
+ghost use Rattle.questions.specs.Answers.{Fills, laid};
 
 // 1 for a place in the core, 0 for one outside. A seat that the counts do not have is outside.
 fn mark_of(core: &[u16], seat: Seat, time: Time) -> u8
@@ -66,23 +63,13 @@ pub fn ask_marks<'a>(
     out: &mut [u8],
 ) -> Given
     requires { ⌜ Accepted sizes × (length (now times) ≡ length (now editors)) ⌝ }
-    ensures { λ r.
-        ⌜ (r ≡ givenAnswer (marksOn (buffer (length (now (out .entry)))) (farmFor sizes (now (losses .entry))) (now (editors .entry)) (now (times .entry)) seat time))
-        × (now (out .exit) ≡ into (marksOn (buffer (length (now (out .entry)))) (farmFor sizes (now (losses .entry))) (now (editors .entry)) (now (times .entry)) seat time) (now (out .entry))) ⌝ }
+    ensures { λ r. ⌜ Fills (λ room. marksOn room (farmFor sizes (now (losses .entry))) (now (editors .entry)) (now (times .entry)) seat time) (now (out .entry)) r (now (out .exit)) ⌝ }
 {
-    if !is_place(sizes, seat, time) {
-        return Given::Refused(Refusal::NoSuchPlace);
-    }
-    if out.len() < editors.len() {
-        return Given::Refused(Refusal::NoRoom);
-    }
-    let answer = settle(losses, sizes, seat, time);
+    let answer = settle_at(losses, sizes, seat, time, out.len(), editors.len());
     let ruling = answer.ruling;
     if let Ruling::Refused(refusal) = ruling {
         return Given::Refused(refusal);
     }
-    let settled = answer.settled;
-    let core = settled.core;
-    put_marks(&core.of, editors, times, out);
+    put_marks(&answer.settled.core.of, editors, times, out);
     Given::Done
 }

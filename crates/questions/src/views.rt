@@ -13,11 +13,10 @@ use viewing::views::view_of;
 ghost use mathlib.Core.Path.{_≡_};
 ghost use mathlib.Core.Bool.{_&&_};
 ghost use lib.Dec.{ltb, leb};
-ghost use lib.ListN.{length};
 ghost use Rattle.viewing.specs.Counts.{farmFor};
-ghost use Rattle.questions.specs.Question.{byValue, buffer, refused, viewIn, knownIn, loserIn};
+ghost use Rattle.questions.specs.Question.{byValue, refused, viewIn, knownIn, loserIn};
 ghost use Rattle.questions.specs.Accepted.{Accepted};
-ghost use Rattle.questions.specs.Answers.{seenAnswer, standingAnswer, givenAnswer, into};
+ghost use Rattle.questions.specs.Answers.{Fills, seenAnswer, standingAnswer};
 
 // Whether a seat is below n and a time at most R: where not, 8 is given.
 pub fn is_place(sizes: Sizes, seat: Seat, time: Time) -> bool
@@ -32,9 +31,7 @@ pub fn is_place(sizes: Sizes, seat: Seat, time: Time) -> bool
 // The view of a place, into a lent buffer of at least n numbers.
 pub fn ask_view_into(losses: &[u16], sizes: Sizes, seat: Seat, time: Time, out: &mut [i16]) -> Given
     requires { ⌜ Accepted sizes ⌝ }
-    ensures { λ r.
-        ⌜ (r ≡ givenAnswer (viewIn (buffer (length (now (out .entry)))) (farmFor sizes (now (losses .entry))) seat time))
-        × (now (out .exit) ≡ into (viewIn (buffer (length (now (out .entry)))) (farmFor sizes (now (losses .entry))) seat time) (now (out .entry))) ⌝ }
+    ensures { λ r. ⌜ Fills (λ room. viewIn room (farmFor sizes (now (losses .entry))) seat time) (now (out .entry)) r (now (out .exit)) ⌝ }
 {
     if !is_place(sizes, seat, time) {
         return Given::Refused(Refusal::NoSuchPlace);

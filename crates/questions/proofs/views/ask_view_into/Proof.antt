@@ -1,7 +1,7 @@
 -- `questions::views::ask_view_into` meets its contract: 8, 7, or the view's latest times at the buffer's front.
 -- Assumes nothing.
 use Rattle.questions.proofs.AskLaws.{place-below, view-nowhere, view-tight, view-found, view-in-time}
-use Rattle.questions.proofs.BufferLaws.{refused-buffer, found-buffer}
+use Rattle.questions.proofs.BufferLaws.{refused-fills, found-fills}
 use Rattle.questions.proofs.TimeLaws.{times-held, length-counts, counts-bound}
 use Rattle.questions.specs.Answers.{laid}
 use Rattle.questions.specs.Question.{isPlace, buffer}
@@ -26,7 +26,7 @@ returns : tie.Need-returns
 unfolding isPlace
 returns c =
     let a = c .before .before .before .args in
-    refused-buffer _ _ (now (a .out))
+    refused-fills _ (now (a .out)) _
     (view-nowhere (farmFor (a .sizes) (now (a .losses))) (a .seat) (a .time) (buffer (length (now (a .out)))) (sym (c .before .is-place .ensures) ∙ not-true _ (c .if1 .taken)))
 
 cast-if2 : tie.Need-cast-if2
@@ -36,7 +36,7 @@ returns-2 : tie.Need-returns-2
 unfolding isPlace
 returns-2 c =
     let a = c .before .before .before .before .before .args in
-    refused-buffer _ _ (now (a .out))
+    refused-fills _ (now (a .out)) _
     (view-tight (farmFor (a .sizes) (now (a .losses))) (a .seat) (a .time) (length (now (a .out)))
     (sym (c .before .before .before .is-place .ensures) ∙ not-false _ (c .before .before .if1 .left)) (c .if2 .taken))
 
@@ -75,7 +75,7 @@ returns-3 c =
     let farm = farmFor (a .sizes) (now (a .losses)) in
     let e = c .before .before .before .before .before .before .view-of .ensures in
     let room : a .sizes .seats ≤ length (now (a .out)) = c .before .before .before .before .before .before .before .if2 .left in
-    found-buffer _ _ (now (a .out)) _
+    found-fills _ (now (a .out)) _ _
     (view-found farm (a .seat) (a .time) (length (now (a .out))) (sym (c .before .before .before .before .before .before .before .before .before .before .is-place .ensures) ∙ not-false _ (c .before .before .before .before .before .before .before .before .before .if1 .left)) room)
     (c .before .put-times .ensures
     ∙ ap (λ (l : List ℤ). laid l (now (a .out))) (times-held (a .sizes .seats) (viewOf farm (a .seat) (a .time)) _ (omega arith) e))
