@@ -11,12 +11,13 @@ use borrow.Author.Tests.{lt-ltb, le-leb}
 use Rattle.farm.specs.Sets.{Seats, bit}
 use Rattle.farm.specs.declared.places.Seat.{Seat}
 use Rattle.farm.specs.declared.places.Time.{Time}
-use Rattle.knowledge.specs.Farm.{Farm, losers}
+use Rattle.knowledge.specs.Farm.{Farm, losers, seat}
 use Rattle.knowledge.specs.Views.{latestTimes}
 use Rattle.knowledge.specs.Known.{knownOf}
 use Rattle.knowledge.specs.Settled.{Settled, Outcome, overBound, settled, settle, outcomeOf}
-use Rattle.viewing.specs.Counts.{room, counts}
+use Rattle.viewing.specs.Counts.{room, counts, farmFor}
 use Rattle.construction.specs.KnownSets.{knownSets}
+use Rattle.viewing.specs.declared.sizes.Sizes.{Sizes}
 use Rattle.viewing.proofs.ViewSteps.{counts-at}
 use Rattle.questions.specs.Answers.{laid, noTimes, agreedFrom}
 use Rattle.questions.specs.Question.{byValue, isPlace, ofOutcome, settledIn}
@@ -30,7 +31,7 @@ use Rattle.lines.specs.Printing.{PutsWithin, Prints, lineRoom}
 use Rattle.lines.specs.declared.printing.Printed.{Printed}
 use Rattle.lines.specs.declared.printing.Printed.the-variants.{Length}
 use Rattle.page.specs.Page.{lineOf, lineAt}
-use Rattle.page.specs.Printing.{countFrom, endIn, lineFrom, lineGiven, lineIn}
+use Rattle.page.specs.Printing.{countFrom, endIn, lineFrom, lineGiven, lineIn, placeOf}
 
 -- Where there is room, the line is put.
 pub printed-put : {text : Text} {at end : ℕ} {old new : List ℕ} {printed : Printed} → at + lineRoom ≤ length old
@@ -93,7 +94,7 @@ same-settled farm ℓ p q hp hq early e =
     ∙ ap (λ (known : Seats). ofOutcome (settle farm (ℓ .0) known)) e
     ∙ sym (settled-valued farm q ℓ 0 (is-place farm q ℓ hq early))
 
-pub same-place : (farm : Farm) (seats times sets : List ℕ) (ℓ : Time) (p q : Seat) (place : Agreed) → farm .seats ≤ room
+same-place : (farm : Farm) (seats times sets : List ℕ) (ℓ : Time) (p q : Seat) (place : Agreed) → farm .seats ≤ room
     → p .0 < farm .seats → q .0 < farm .seats → ℓ .0 ≤ farm .rounds → sets ≡ counts (farm .seats) (knownSets farm ℓ)
     → getD sets (p .0) 0 ≡ getD sets (q .0) 0
     → place ≡ agreedFrom (farm .seats) seats times (settledIn byValue 0 farm p ℓ)
@@ -103,3 +104,17 @@ same-place farm seats times sets ℓ p q place small hp hq early e same f =
     let known : (s : Seat) → s .0 < farm .seats → getD sets (s .0) 0 ≡ knownOf farm s ℓ =
     λ s h. rw e (counts-at (farm .seats) (knownSets farm ℓ) (s .0) small h) in
     f ∙ ap (agreedFrom (farm .seats) seats times) (same-settled farm ℓ p q hp hq early (sym (known p hp) ∙ same ∙ known q hq))
+
+-- What was asked of the place of a seat that has this known set.
+pub record Shared (sizes : Sizes) (losses seats times sets : List ℕ) (ℓ : Time) (place : Agreed) (set : Seats) : Type 0 where
+  pub of : ℕ
+  pub inside : of < sizes .seats
+  pub known : getD sets of 0 ≡ set
+  pub asked : place ≡ placeOf sizes losses seats times (seat of) ℓ
+
+-- It is asked of every other seat that has it.
+pub shared-place : (sizes : Sizes) (losses seats times sets : List ℕ) (ℓ : Time) (place : Agreed) (set : Seats) (p : ℕ) → sizes .seats ≤ room
+    → p < sizes .seats → ℓ .0 ≤ sizes .rounds → sets ≡ counts (sizes .seats) (knownSets (farmFor sizes losses) ℓ)
+    → getD sets p 0 ≡ set → Shared sizes losses seats times sets ℓ place set → place ≡ placeOf sizes losses seats times (seat p) ℓ
+shared-place sizes losses seats times sets ℓ place set p small here early e same s =
+    same-place (farmFor sizes losses) seats times sets ℓ (seat (s .of)) (seat p) place small (s .inside) here early e (s .known ∙ sym same) (s .asked)

@@ -31,7 +31,7 @@ use Rattle.lines.specs.Printing.{PutsWithin, Prints}
 use Rattle.lines.specs.declared.printing.Printed.{Printed}
 use Rattle.lines.specs.declared.printing.Printed.the-variants.{Length, NoRoom}
 use Rattle.page.specs.Page.{Counting, linesOf, numbersOf, pageOf, recordPage}
-use Rattle.page.specs.Printing.{Held, Holds, PrintsPage, countFrom, pageRead, pageRoom}
+use Rattle.page.specs.Printing.{Holds, PrintsPage, countFrom, pageHeld, pageRoom}
 
 -- ════ A record that was read into tables ════
 
@@ -47,8 +47,8 @@ record Filled (bytes : List ℕ) (h : Header) (losses seats times : List ℕ) : 
   pub moments : take (h .edits) times ≡ timesOf (what .edits)
 
 module _ (bytes : List ℕ) (before after : Tables) (r : Checked) (roomy : Room before) (o : ReadOutcome bytes before r after) where
-  read-good : (h : Header) → IsBytes bytes → r ≡ Good h → Filled bytes h (after .losses) (after .seats) (after .times)
-  read-good h small e =
+  read-filled : (h : Header) → IsBytes bytes → r ≡ Good h → Filled bytes h (after .losses) (after .seats) (after .times)
+  read-filled h small e =
       let left = places-left bytes before after r roomy o in
       let w = bytes-good bytes r h small (left .0) e in
       let seats = read-seats bytes h w (after .seats) (before .seats) (left .2) in
@@ -64,9 +64,6 @@ module _ (bytes : List ℕ) (before after : Tables) (r : Checked) (roomy : Room 
         editors = seats;
         moments = times;
       }
-
-  read-bad : (x : Refusal) → r ≡ Refused x → readingOf bytes ≡ bad x
-  read-bad x e = bytes-bad bytes r x (places-left bytes before after r roomy o .0) e
 
 -- ════ Its page ════
 
@@ -90,45 +87,24 @@ bad-page : (bytes : List ℕ) (x : Refusal) (number : ℕ) → readingOf bytes �
 unfolding pageOf
 bad-page bytes x number e en = rw (e, en)
 
--- ════ What reading answered, and its page ════
+-- ════ What reading left ════
 
-module _ (bytes : List ℕ) (before after : Tables) (r : Checked) (roomy : Room before) (o : ReadOutcome bytes before r after) (small : IsBytes bytes) where
-  held-as : 889 ≤ length (after .losses) → 512 ≤ length (after .seats) → 512 ≤ length (after .times) → (answer : Checked) → r ≡ answer
-      → Held answer (after .losses) (after .seats) (after .times)
-  held-as losses seats times (Good h) e =
-      let f = read-good bytes before after r roomy o h small e in
+module _ (bytes : List ℕ) (before after : Tables) (r : Checked) (roomy : Room before) (o : ReadOutcome bytes before r after) where
+  -- The tables hold a good record, and its page is the page of what they hold.
+  pub read-good : (h : Header) → IsBytes bytes → r ≡ Good h
+      → 889 ≤ length (after .losses) → 512 ≤ length (after .seats) → 512 ≤ length (after .times)
+      → Holds h (after .losses) (after .seats) (after .times)
+      × (pageHeld h (after .losses) (after .seats) (after .times) ≡ pageOf (readingOf bytes))
+  read-good h small e losses seats times =
+      let f = read-filled bytes before after r roomy o h small e in
       let sets = f .sets in
-      let edits = f .edits in
-      record { accepted = f .accepted; sets = omega arith; editors = omega arith; moments = omega arith; few = edits }
-  held-as losses seats times (Refused x) e = tt
+      let edits = f .edits in (
+        record { accepted = f .accepted; sets = omega arith; editors = omega arith; moments = omega arith; few = edits },
+        good-page bytes h (after .losses) (after .seats) (after .times) f,
+      )
 
-  page-as : (answer : Checked) → r ≡ answer → pageRead answer (after .losses) (after .seats) (after .times) ≡ pageOf (readingOf bytes)
-  unfolding pageRead
-  page-as (Good h) e =
-      good-page bytes h (after .losses) (after .seats) (after .times) (read-good bytes before after r roomy o h small e)
-  page-as (Refused x) e = bad-page bytes x (numberOf x) (read-bad bytes before after r roomy o x e) refl
-
-  -- The tables hold a good record, and the page of what reading answered is the record's.
-  pub read-found : 889 ≤ length (after .losses) → 512 ≤ length (after .seats) → 512 ≤ length (after .times)
-      → Held r (after .losses) (after .seats) (after .times)
-      × (pageRead r (after .losses) (after .seats) (after .times) ≡ pageOf (readingOf bytes))
-  read-found losses seats times = (held-as losses seats times r refl, page-as r refl)
-
--- ════ The page of tables, by what reading answered ════
-
-module _ (r : Checked) (losses seats times : List ℕ) where
-  pub held-good : (h : Header) → r ≡ Good h → Held r losses seats times → Holds h losses seats times
-  held-good h e held = rw e at held
-
-  pub good-read : (h : Header) → r ≡ Good h → headerLine (numbersOf h)
-      ++ linesOf (farmFor (sizesOf h) (take (h .seats * h .rounds) losses)) (countFrom (take (h .edits) seats) (take (h .edits) times)) (suc (h .rounds))
-      ≡ pageRead r losses seats times
-  unfolding pageRead
-  good-read h e = rw e refl
-
-  pub bad-read : (x : Refusal) (number : ℕ) → r ≡ Refused x → number ≡ numberOf x → refusedLine number ≡ pageRead r losses seats times
-  unfolding pageRead
-  bad-read x number e en = rw (e, en) refl
+  pub read-bad : (x : Refusal) (number : ℕ) → r ≡ Refused x → number ≡ numberOf x → refusedLine number ≡ pageOf (readingOf bytes)
+  read-bad x number e en = bad-page bytes x number (bytes-bad bytes r x (places-left bytes before after r roomy o .0) e) en
 
 -- ════ What is left in the buffer ════
 
@@ -144,10 +120,6 @@ page-put {text} {end = end} {old} room same p =
     let fits = le-leb pageRoom (length old) room in
     rw (← same)
     (record { answered = rw fits (ap Length ends); bytes = rw fits (p .puts .bytes); short = λ t. omega (arith, ends, p .within) })
-
--- The page of what was read is the record's.
-pub page-of : {text page : Text} {old new : List ℕ} {answer : Printed} → text ≡ page → PrintsPage text old new answer → PrintsPage page old new answer
-page-of same p = rw (← same) p
 
 pub page-printed : {text page : Text} {old new : List ℕ} {answer : Printed} → pageRoom ≤ length old → text ≡ page
     → Prints text 0 old new answer → PrintsPage page old new answer

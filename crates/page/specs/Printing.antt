@@ -2,21 +2,17 @@
 use mathlib.Core.Path.{_≡_}
 use mathlib.Core.Bool.{Bool, true, cond}
 use mathlib.Core.List.{List, _++_}
-use Prim.Native.Nat.{ℕ, suc, _+_, _*_, _≤_, _<_}
+use Prim.Native.Nat.{ℕ, suc, _+_, _*_, _≤_}
 use lib.Dec.{leb}
 use lib.ListN.{length, take}
 use Rattle.farm.specs.Limits.{limits}
-use Rattle.farm.specs.Refusals.{numberOf}
 use Rattle.farm.specs.Sets.{Seats}
 use Rattle.farm.specs.declared.places.Seat.{Seat}
 use Rattle.farm.specs.declared.places.Time.{Time}
 use Rattle.knowledge.specs.Farm.{losers}
-use Rattle.viewing.specs.Counts.{counts, farmFor}
-use Rattle.construction.specs.KnownSets.{knownSets}
+use Rattle.viewing.specs.Counts.{farmFor}
 use Rattle.viewing.specs.declared.sizes.Sizes.{Sizes}
 use Rattle.record.specs.declared.header.Header.{Header}
-use Rattle.record.specs.declared.answers.Checked.{Checked}
-use Rattle.record.specs.declared.answers.Checked.the-variants.{Good, Refused as Bad}
 use Rattle.questions.specs.Accepted.{Accepted}
 use Rattle.questions.specs.Answers.{agreedFrom}
 use Rattle.questions.specs.Marks.{countIn}
@@ -26,7 +22,7 @@ use Rattle.questions.specs.declared.answers.Given.{Given}
 use Rattle.questions.specs.declared.answers.Given.the-variants.{Done, Refused}
 use Rattle.questions.specs.declared.answers.Agreed.{Agreed}
 use Rattle.lines.specs.Digits.{Text}
-use Rattle.lines.specs.Lines.{headerLine, placeLine, overLine, refusedLine}
+use Rattle.lines.specs.Lines.{headerLine, placeLine, overLine}
 use Rattle.lines.specs.Printing.{lineRoom, written}
 use Rattle.lines.specs.declared.printing.PlaceLine.{PlaceLine}
 use Rattle.lines.specs.declared.printing.Printed.{Printed}
@@ -91,23 +87,12 @@ lineIn place seats time seat loser = lineGiven (place .given) (lineFrom place se
 abbrev pub placeOf : Sizes → (losses seats times : List ℕ) → Seat → Time → Agreed
 placeOf sizes losses seats times p ℓ = agreedFrom (sizes .seats) seats times (settledIn byValue 0 (farmFor sizes losses) p ℓ)
 
--- What is asked of the place of the seat before, with the known sets of the time: where the next seat's place is asked for.
-pub record Follows (sizes : Sizes) (losses seats times known : List ℕ) (place : Agreed) (before next : Seat) (ℓ : Time) : Type 0 where
-  pub accepted : Accepted sizes
-  pub parallel : length times ≡ length seats
-  pub few : length seats ≤ limits .mostEdits
-  pub sets : known ≡ counts (sizes .seats) (knownSets (farmFor sizes losses) ℓ)
-  pub behind : before .0 < sizes .seats
-  pub ahead : next .0 < sizes .seats
-  pub early : ℓ .0 ≤ sizes .rounds
-  pub asked : place ≡ placeOf sizes losses seats times before ℓ
-
 -- Where a line ends; of no line, which has no end, any number will do.
 abbrev pub endIn : Printed → ℕ
 endIn (Length end) = end
 endIn NoRoom = 0
 
--- ════ What reading answered ════
+-- ════ What reading left ════
 
 -- The tables hold a good record's loss sets and edits at their front.
 pub record Holds (h : Header) (losses seats times : List ℕ) : Type 0 where
@@ -117,13 +102,8 @@ pub record Holds (h : Header) (losses seats times : List ℕ) : Type 0 where
   pub moments : h .edits ≤ length times
   pub few : h .edits ≤ limits .mostEdits
 
-abbrev pub Held : Checked → (losses seats times : List ℕ) → Type 0
-Held (Good h) losses seats times = Holds h losses seats times
-Held (Bad refusal) losses seats times = Unit {0}
-
--- The page of a record that stands at the front of tables, or of a refusal.
-unfoldable pub pageRead : Checked → (losses seats times : List ℕ) → Text
-pageRead (Good h) losses seats times =
+-- Its page.
+abbrev pub pageHeld : Header → (losses seats times : List ℕ) → Text
+pageHeld h losses seats times =
     headerLine (numbersOf h)
     ++ linesOf (farmFor (sizesOf h) (take (lossCount h) losses)) (countFrom (take (h .edits) seats) (take (h .edits) times)) (suc (h .rounds))
-pageRead (Bad refusal) losses seats times = refusedLine (numberOf refusal)

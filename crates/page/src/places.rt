@@ -1,6 +1,5 @@
 // The lines of an accepted record: of a place, of all seats at a time, of all times. Each is put where
 // the page ends so far, and the answer is where it ends then.
-use construction::known::KnownSets;
 use construction::known::known_sets;
 use farm::places::Seat;
 use farm::places::Time;
@@ -14,14 +13,13 @@ use questions::answers::Agreed;
 use questions::answers::Given;
 use viewing::sizes::Sizes;
 ghost use mathlib.Core.Path.{_≡_};
-ghost use Prim.Native.Nat.{suc, _+_, _≤_, _<_};
-ghost use lib.Dec.{eqb};
-ghost use lib.ListN.{length, getD};
+ghost use Prim.Native.Nat.{suc, _+_, _≤_};
+ghost use lib.ListN.{length};
 ghost use Rattle.farm.specs.Sets.{bit};
 ghost use Rattle.viewing.specs.Counts.{farmFor};
 ghost use Rattle.lines.specs.Printing.{PutsWithin, lineRoom};
 ghost use Rattle.page.specs.Page.{linesAt, linesOf};
-ghost use Rattle.page.specs.Printing.{Follows, Ready, countFrom, endIn, lineFrom, lineIn, placeOf, timeRoom, timesRoom};
+ghost use Rattle.page.specs.Printing.{Ready, countFrom, endIn, lineFrom, lineIn, timeRoom, timesRoom};
 
 // Where a line ends that was printed; it is asked of no other.
 pub fn end_of(printed: Printed) -> usize
@@ -74,38 +72,8 @@ fn put_line(
     end_of(place_line(line, out, at))
 }
 
-// Whether two seats have one known set.
-fn share_known(known: KnownSets, one: Seat, other: Seat) -> bool
-    requires { ⌜ (one .0 < 7) × (other .0 < 7) ⌝ }
-    ensures { λ r. ⌜ r ≡ eqb (getD (known .of) (one .0) 0) (getD (known .of) (other .0) 0) ⌝ }
-{
-    let sets = known.of;
-    sets[one.0 as usize] == sets[other.0 as usize]
-}
-
-// What is asked of a seat's place, where that of the seat before is known. At one time it depends on
-// the known set alone, so that it is worked out again only where the two known sets differ.
-fn next_place<'a>(
-    losses: &'a [u16],
-    editors: &'a [u8],
-    times: &'a [u16],
-    sizes: Sizes,
-    known: KnownSets,
-    place: Agreed,
-    before: Seat,
-    seat: Seat,
-    time: Time,
-) -> Agreed
-    requires { ⌜ Follows sizes (now losses) (now editors) (now times) (known .of) place before seat time ⌝ }
-    ensures { λ r. ⌜ r ≡ placeOf sizes (now (losses .entry)) (now (editors .entry)) (now (times .entry)) seat time ⌝ }
-{
-    if share_known(known, before, seat) {
-        return place;
-    }
-    ask_agreed(losses, editors, times, sizes, seat, time)
-}
-
-// The lines of a time, seat by seat.
+// The lines of a time, seat by seat. What is asked of a place depends there on the seat's known set alone,
+// so that it is worked out again only where the known set is not that of the seat before.
 fn put_seats<'a>(
     losses: &'a [u16],
     editors: &'a [u8],
@@ -122,23 +90,17 @@ fn put_seats<'a>(
 {
     let seats = sizes.seats;
     let known = known_sets(losses, sizes, time);
+    let sets = known.of;
     let mut place = ask_agreed(losses, editors, times, sizes, Seat(0), time);
-    let mut before: u8 = 0;
+    let mut shared = sets[0];
     let mut end = at;
     for seat in 0..seats {
-        place = next_place(
-            losses,
-            editors,
-            times,
-            sizes,
-            known,
-            place,
-            Seat(before),
-            Seat(seat),
-            time,
-        );
+        let set = sets[seat as usize];
+        if set != shared {
+            place = ask_agreed(losses, editors, times, sizes, Seat(seat), time);
+            shared = set;
+        }
         end = put_line(place, seats, losers, time, Seat(seat), out, end);
-        before = seat;
     }
     end
 }

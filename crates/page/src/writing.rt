@@ -13,24 +13,17 @@ use reading::tables::read;
 use record::answers::Checked;
 use record::header::Header;
 use viewing::sizes::Sizes;
-ghost use mathlib.Core.Path.{_≡_};
-ghost use mathlib.Core.List.{_++_};
-ghost use Prim.Native.Nat.{suc, _≤_};
+ghost use Prim.Native.Nat.{_≤_};
 ghost use lib.ListN.{length};
-ghost use Rattle.farm.specs.Limits.{limits};
-ghost use Rattle.viewing.specs.Counts.{farmFor};
 ghost use Rattle.record.specs.Document.{readingOf};
-ghost use Rattle.questions.specs.Accepted.{Accepted};
-ghost use Rattle.carriers.specs.Loading.{sizesOf};
-ghost use Rattle.lines.specs.Lines.{headerLine};
 ghost use Rattle.lines.specs.Printing.{PutsWithin};
-ghost use Rattle.page.specs.Page.{linesOf, numbersOf, pageOf};
-ghost use Rattle.page.specs.Printing.{Held, PrintsPage, countFrom, pageRead, pageRoom};
+ghost use Rattle.page.specs.Page.{pageOf};
+ghost use Rattle.page.specs.Printing.{Holds, PrintsPage, pageHeld, pageRoom};
 
 // Room for any page, in bytes: a first line, and seven lines for each of 128 times.
 pub const PAGE_ROOM: usize = 86_112;
 
-// The first line, and the lines of all times.
+// The first line, and the lines of all times, of a good record at the front of the tables.
 fn put_page<'a>(
     losses: &'a [u16],
     editors: &'a [u8],
@@ -38,10 +31,12 @@ fn put_page<'a>(
     header: Header,
     out: &mut [u8],
 ) -> usize
-    requires { ⌜ Accepted (sizesOf header) × (length (now times) ≡ length (now editors)) × (length (now editors) ≤ limits .mostEdits) × (pageRoom ≤ length (now out)) ⌝ }
-    ensures { λ r.
-        ⌜ PutsWithin pageRoom (headerLine (numbersOf header) ++ linesOf (farmFor (sizesOf header) (now (losses .entry))) (countFrom (now (editors .entry)) (now (times .entry))) (suc (header .rounds))) 0 (now (out .entry)) (now (out .exit)) r ⌝ }
+    requires { ⌜ Holds header (now losses) (now editors) (now times) × (pageRoom ≤ length (now out)) ⌝ }
+    ensures { λ r. ⌜ PutsWithin pageRoom (pageHeld header (now (losses .entry)) (now (editors .entry)) (now (times .entry))) 0 (now (out .entry)) (now (out .exit)) r ⌝ }
 {
+    let used = header.seats as usize * header.rounds as usize;
+    let edits = header.edits as usize;
+    let sets = &losses[..used];
     let sizes = Sizes {
         seats: header.seats,
         bound: header.bound,
@@ -53,36 +48,17 @@ fn put_page<'a>(
         rounds: header.rounds,
         edits: header.edits,
     };
-    let losers = losers_by(losses, sizes, Time(sizes.rounds));
+    let losers = losers_by(sets, sizes, Time(sizes.rounds));
     let end = end_of(header_line(first, out));
-    put_times(losses, editors, times, sizes, losers, out, end)
-}
-
-// The page of what reading answered, a good record's from the tables that hold it at their front.
-fn put_read<'a>(
-    checked: Checked,
-    losses: &'a [u16],
-    editors: &'a [u8],
-    times: &'a [u16],
-    out: &mut [u8],
-) -> Printed
-    requires { ⌜ Held checked (now losses) (now editors) (now times) × (pageRoom ≤ length (now out)) ⌝ }
-    ensures { λ r. ⌜ PrintsPage (pageRead checked (now (losses .entry)) (now (editors .entry)) (now (times .entry))) (now (out .entry)) (now (out .exit)) r ⌝ }
-{
-    match checked {
-        Checked::Refused(refusal) => refused_line(number(refusal), out),
-        Checked::Good(header) => {
-            let used = header.seats as usize * header.rounds as usize;
-            let edits = header.edits as usize;
-            Printed::Length(put_page(
-                &losses[..used],
-                &editors[..edits],
-                &times[..edits],
-                header,
-                out,
-            ))
-        }
-    }
+    put_times(
+        sets,
+        &editors[..edits],
+        &times[..edits],
+        sizes,
+        losers,
+        out,
+        end,
+    )
 }
 
 pub fn write_page(bytes: &[u8], out: &mut [u8]) -> Printed
@@ -104,5 +80,10 @@ pub fn write_page(bytes: &[u8], out: &mut [u8]) -> Printed
         &mut cells,
         &mut changes,
     );
-    put_read(checked, &losses, &editors, &times, out)
+    match checked {
+        Checked::Refused(refusal) => refused_line(number(refusal), out),
+        Checked::Good(header) => {
+            Printed::Length(put_page(&losses, &editors, &times, header, out))
+        }
+    }
 }

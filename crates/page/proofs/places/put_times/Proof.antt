@@ -44,7 +44,11 @@ put-seats-requires c κs =
     (start .pre .0, omega arith, omega arith)
 
 add-time : tie.Need-add-time Inv-loop μ-loop
-add-time c = omega arith
+add-time c =
+    let turn = c .before .before .before .before .before in
+    let most = turn .before .before .before .before .before .before .pre .0 .accepted .rounds in
+    let less = c .before .before .before .before .loop-test .taken in
+    omega arith
 
 loop-less : tie.Need-loop-less Inv-loop μ-loop
 loop-less c = omega arith

@@ -1,42 +1,50 @@
--- `page::writing::write_page` meets its contract: nothing without room, or the page of what was read.
--- Assumes nothing.
+-- `page::writing::write_page` meets its contract: nothing without room, the one line of a bad record, or the page of the
+-- record that was read. Assumes nothing.
 use mathlib.Core.Path.{_≡_}
 use Prim.Native.Nat.{_≤_}
 use native.Mathlib.Omega.{arith}
 use lib.ListN.{length}
 use denote.Ref.{now}
 use Rattle.record.specs.Document.{readingOf}
-use Rattle.record.specs.Taking.{IsBytes}
 use Rattle.page.specs.Page.{pageOf}
-use Rattle.page.specs.Printing.{Held, pageRead, pageRoom}
-use Rattle.page.proofs.PageLaws.{read-found, page-nowhere, page-of}
+use Rattle.page.specs.Printing.{Holds, pageHeld, pageRoom}
+use Rattle.page.proofs.PageLaws.{read-good, read-bad, page-nowhere, page-put, page-printed}
 use borrow.Author.Needs.{needs}
 use Rattle.page.proofs.writing.write_page.Statement.{statement}
 use Rattle.page.proofs.writing.write_page.Tie as tie
 
+-- ════ The way back from a place of the code to the one before it ════
+
 abbrev start : tie.After-read → tie.Start
 start c = c .before .before .before .before .before .before .before .before .before
 
-abbrev read : tie.After-put-read-arg → tie.After-read
-read c = c .before .before .before .before .before .before .before .before .before
+abbrev read : tie.After-changes2 → tie.After-read
+read c = c .before .before .before .before .before
+
+abbrev told : tie.After-put-page-arg → tie.After-known-told2
+told c = c .before .before .before .before
+
+-- ════ What reading left ════
 
 room : (c : tie.After-read) → pageRoom ≤ length (start c .args .out .now)
 room c = c .before .before .before .before .before .before .if1 .left
 
-small : (c : tie.After-read) → IsBytes (now (start c .args .bytes))
-small c = λ i. omega (arith, c .before .before .before .before .before .before .before .before .shared-slice-known .given i)
-
--- What reading left.
-found : (c : tie.After-read)
-    → Held (c .read .result) (c .read .last .1 .0) (c .read .last .1 .1 .0) (c .read .last .1 .1 .1 .0)
-    × (pageRead (c .read .result) (c .read .last .1 .0) (c .read .last .1 .1 .0) (c .read .last .1 .1 .1 .0) ≡ pageOf (readingOf (now (start c .args .bytes))))
+found : (c : tie.After-known-told2)
+    → Holds (c .before .checked2 .given .0 .0) (read (c .before .before .before) .read .last .1 .0) (read (c .before .before .before) .read .last .1 .1 .0) (read (c .before .before .before) .read .last .1 .1 .1 .0)
+    × (pageHeld (c .before .checked2 .given .0 .0) (read (c .before .before .before) .read .last .1 .0) (read (c .before .before .before) .read .last .1 .1 .0) (read (c .before .before .before) .read .last .1 .1 .1 .0)
+    ≡ pageOf (readingOf (now (start (read (c .before .before .before)) .args .bytes))))
 found c =
-    let losses = c .read .kept .1 .0 in
-    let seats = c .read .kept .1 .1 .0 in
-    let times = c .read .kept .1 .1 .1 .0 in
-    read-found (now (start c .args .bytes)) _ _ (c .read .result)
+    let at = read (c .before .before .before) in
+    let losses = at .read .kept .1 .0 in
+    let seats = at .read .kept .1 .1 .0 in
+    let times = at .read .kept .1 .1 .1 .0 in
+    read-good (now (start at .args .bytes)) _ _ (at .read .result)
     (record { losses = search needs; seats = search needs; times = search needs; cells = search needs; changes = search needs })
-    (c .read .ensures) (small c) (omega arith) (omega arith) (omega arith)
+    (at .read .ensures) (c .before .checked2 .given .0 .0)
+    (λ i. omega (arith, at .before .before .before .before .before .before .before .before .shared-slice-known .given i))
+    (c .before .checked2 .given .1) (omega arith) (omega arith) (omega arith)
+
+-- ════ The answers ════
 
 returns : tie.Need-returns
 returns c = page-nowhere _ (c .before .before .before .args .out .now) (c .if1 .taken)
@@ -59,25 +67,55 @@ slice-aggregate-read-5 c = search needs
 read-requires : tie.Need-read-requires
 read-requires c κs = search needs
 
-slice-aggregate-put-read : tie.Need-slice-aggregate-put-read
-slice-aggregate-put-read c = search needs
+enum-known-checked : tie.Need-enum-known-checked
+enum-known-checked c = search needs
 
-slice-aggregate-put-read-2 : tie.Need-slice-aggregate-put-read-2
-slice-aggregate-put-read-2 c = search needs
+number-requires : tie.Need-number-requires
+number-requires c κs = search needs
 
-slice-aggregate-put-read-3 : tie.Need-slice-aggregate-put-read-3
-slice-aggregate-put-read-3 c = search needs
+refused-line-requires : tie.Need-refused-line-requires
+refused-line-requires c κs = search needs
 
-put-read-requires : tie.Need-put-read-requires
-put-read-requires c κs = (found (read c) .0, room (read c))
+enum-known-checked-2 : tie.Need-enum-known-checked-2
+enum-known-checked-2 c = search needs
+
+slice-aggregate-put-page : tie.Need-slice-aggregate-put-page
+slice-aggregate-put-page c = search needs
+
+slice-aggregate-put-page-2 : tie.Need-slice-aggregate-put-page-2
+slice-aggregate-put-page-2 c = search needs
+
+slice-aggregate-put-page-3 : tie.Need-slice-aggregate-put-page-3
+slice-aggregate-put-page-3 c = search needs
+
+put-page-requires : tie.Need-put-page-requires
+put-page-requires c κs =
+    let good = told c in
+    (found good .0, room (read (good .before .before .before)))
 
 same-length : tie.Need-same-length
 same-length c = search needs
 
 returns-2 : tie.Need-returns-2
 returns-2 c =
+    let line = c .before .before in
+    let number = line .before .before in
+    let bad = number .before .before in
+    let left = read (bad .before .before) in
+    page-printed (room left)
+    (read-bad (now (start left .args .bytes)) _ _ (left .read .result)
+    (record { losses = search needs; seats = search needs; times = search needs; cells = search needs; changes = search needs })
+    (left .read .ensures) _ _ (bad .checked .given .1) (number .number .ensures))
+    (line .refused-line .ensures)
+
+same-length-2 : tie.Need-same-length-2
+same-length-2 c = search needs
+
+returns-3 : tie.Need-returns-3
+returns-3 c =
     let put = c .before .before in
-    page-of (found (read (put .before)) .1) (put .put-read .ensures)
+    let good = told (put .before) in
+    page-put (room (read (good .before .before .before))) (found good .1) (put .put-page .ensures)
 
 pub write-page-spec : {M : Type 1} → statement M
 write-page-spec =
@@ -90,9 +128,15 @@ write-page-spec =
     slice-aggregate-read-4
     slice-aggregate-read-5
     read-requires
-    slice-aggregate-put-read
-    slice-aggregate-put-read-2
-    slice-aggregate-put-read-3
-    put-read-requires
+    enum-known-checked
+    number-requires
+    refused-line-requires
+    enum-known-checked-2
+    slice-aggregate-put-page
+    slice-aggregate-put-page-2
+    slice-aggregate-put-page-3
+    put-page-requires
     same-length
-    returns-2)
+    returns-2
+    same-length-2
+    returns-3)
