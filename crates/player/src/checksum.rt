@@ -1,6 +1,5 @@
 // The 32-bit FNV-1a checksum of a table: its numbers in their order, each with its lowest byte first.
 use crate::widths::bits;
-use live::table::Table;
 
 const START: u64 = 0x811c_9dc5;
 
@@ -64,18 +63,24 @@ fn with_signed(sum: u64, list: &[i16]) -> u64 {
     total
 }
 
-fn with_header(table: Table) -> u64 {
-    let seats = with_byte(START, table.seats);
-    let bound = with_byte(seats, table.bound);
-    let rounds = with_two(bound, table.rounds);
-    with_two(rounds, table.edits)
-}
-
-pub fn checksum(table: Table) -> u64 {
-    let header = with_header(table);
-    let losses = with_shorts(header, &table.losses);
-    let editors = with_bytes(losses, &table.editors);
-    let times = with_shorts(editors, &table.times);
-    let cells = with_words(times, &table.cells);
-    with_signed(cells, &table.changes)
+pub fn checksum<'a>(
+    losses: &'a [u16; 889],
+    editors: &'a [u8; 512],
+    times: &'a [u16; 512],
+    cells: &'a [u32; 512],
+    changes: &'a [i16; 512],
+    seats: u8,
+    bound: u8,
+    rounds: u16,
+    edits: u16,
+) -> u64 {
+    let header = with_two(
+        with_two(with_byte(with_byte(START, seats), bound), rounds),
+        edits,
+    );
+    let after_losses = with_shorts(header, losses);
+    let after_editors = with_bytes(after_losses, editors);
+    let after_times = with_shorts(after_editors, times);
+    let after_cells = with_words(after_times, cells);
+    with_signed(after_cells, changes)
 }

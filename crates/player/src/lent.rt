@@ -1,9 +1,5 @@
 // The questions that are answered in a lent buffer. The buffer holds known numbers before the call, so
 // that the line shows which were written, and a refusal that wrote one is found out.
-use crate::asks::core_of;
-use crate::asks::marks_of;
-use crate::asks::view_of;
-use crate::asks::write_of;
 use crate::saying::say;
 use crate::saying::say_number;
 use crate::saying::say_refused;
@@ -13,7 +9,10 @@ use farm::places::Seat;
 use farm::places::Time;
 use farm::refusals::Refusal;
 use libc::STDOUT_FILENO;
-use live::table::Table;
+use live_questions::lent::core_from;
+use live_questions::lent::marks_from;
+use live_questions::lent::view_from;
+use live_questions::lent::write_from;
 use questions::answers::Given;
 use record::answers::Written;
 ghost use mathlib.Core.Path.{_≡_};
@@ -80,25 +79,61 @@ fn say_times(times: &[i16]) {
     }
 }
 
-fn say_view(given: Given, times: &[i16]) {
-    match given {
-        Given::Done => say_times(times),
-        Given::Refused(refusal) => say_verdict(refusal, differ(times, &times_before())),
-    }
-}
-
 // A view or a core in a buffer of so many numbers.
-pub fn times(table: Table, is_core: bool, seat: Seat, time: Time, room: usize) {
+pub fn ask_times<'a>(
+    losses: &'a [u16; 889],
+    editors: &'a [u8; 512],
+    times: &'a [u16; 512],
+    cells: &'a [u32; 512],
+    changes: &'a [i16; 512],
+    seats: u8,
+    bound: u8,
+    rounds: u16,
+    edits: u16,
+    seat: Seat,
+    time: Time,
+    room: usize,
+    is_core: bool,
+) {
     let mut space = times_before();
     let all: &mut [i16] = &mut space;
     let length = within(room, all.len());
     let lent: &mut [i16] = &mut all[0..length];
     let given = if is_core {
-        core_of(table, seat, time, lent)
+        core_from(
+            losses,
+            editors,
+            times,
+            cells,
+            changes,
+            seats,
+            bound,
+            rounds,
+            edits,
+            seat,
+            time,
+            lent,
+        )
     } else {
-        view_of(table, seat, time, lent)
+        view_from(
+            losses,
+            editors,
+            times,
+            cells,
+            changes,
+            seats,
+            bound,
+            rounds,
+            edits,
+            seat,
+            time,
+            lent,
+        )
     };
-    say_view(given, lent);
+    match given {
+        Given::Done => say_times(lent),
+        Given::Refused(refusal) => say_verdict(refusal, differ(lent, &times_before())),
+    }
 }
 
 // Whether a byte has changed.
@@ -130,40 +165,75 @@ fn say_bytes(bytes: &[u8], are_marks: bool) {
     }
 }
 
-fn marks_in(table: Table, seat: Seat, time: Time, lent: &mut [u8]) {
-    let given = marks_of(table, seat, time, lent);
+fn say_marks(given: Given, marks: &[u8]) {
     match given {
-        Given::Done => say_bytes(lent, true),
-        Given::Refused(refusal) => say_verdict(refusal, changed(lent)),
+        Given::Done => say_bytes(marks, true),
+        Given::Refused(refusal) => say_verdict(refusal, changed(marks)),
     }
-}
-
-pub fn marks(table: Table, seat: Seat, time: Time, room: usize) {
-    let mut space = [BYTE_BEFORE; MOST_BYTES];
-    let all: &mut [u8] = &mut space;
-    let length = within(room, all.len());
-    marks_in(table, seat, time, &mut all[0..length]);
 }
 
 // The length of a record, and its bytes.
-fn say_record(length: usize, bytes: &[u8]) {
-    let end = within(length, bytes.len());
-    say_number(end as u64);
-    say(b" ");
-    say_bytes(&bytes[0..end], false);
-}
-
-fn record_in(table: Table, lent: &mut [u8]) {
-    let written = write_of(table, lent);
+fn say_record(written: Written, bytes: &[u8]) {
     match written {
-        Written::Length(length) => say_record(length, lent),
-        Written::Refused(refusal) => say_verdict(refusal, changed(lent)),
+        Written::Length(length) => {
+            let end = within(length, bytes.len());
+            say_number(end as u64);
+            say(b" ");
+            say_bytes(&bytes[0..end], false);
+        }
+        Written::Refused(refusal) => say_verdict(refusal, changed(bytes)),
     }
 }
 
-pub fn record(table: Table, room: usize) {
+// Marks or the record in a buffer of so many bytes.
+pub fn ask_bytes<'a>(
+    losses: &'a [u16; 889],
+    editors: &'a [u8; 512],
+    times: &'a [u16; 512],
+    cells: &'a [u32; 512],
+    changes: &'a [i16; 512],
+    seats: u8,
+    bound: u8,
+    rounds: u16,
+    edits: u16,
+    seat: Seat,
+    time: Time,
+    room: usize,
+    is_record: bool,
+) {
     let mut space = [BYTE_BEFORE; MOST_BYTES];
     let all: &mut [u8] = &mut space;
     let length = within(room, all.len());
-    record_in(table, &mut all[0..length]);
+    let lent: &mut [u8] = &mut all[0..length];
+    if is_record {
+        let written = write_from(
+            losses,
+            editors,
+            times,
+            cells,
+            changes,
+            seats,
+            bound,
+            rounds,
+            edits,
+            lent,
+        );
+        say_record(written, lent);
+    } else {
+        let given = marks_from(
+            losses,
+            editors,
+            times,
+            cells,
+            changes,
+            seats,
+            bound,
+            rounds,
+            edits,
+            seat,
+            time,
+            lent,
+        );
+        say_marks(given, lent);
+    }
 }

@@ -1,14 +1,16 @@
 // A line taken apart: its word, and the numbers behind it. What a call lacks is 0, and what it has too
 // many of is not looked at.
+use crate::widths::to_u16;
 ghost use Prim.Native.Nat.{_≤_};
 ghost use lib.ListN.{length};
 
 // The most numbers of a line that are looked at.
 pub const MOST_NUMBERS: usize = 16;
 
-// The numbers of a line, each cut to 32 bits, and how many there are.
+// The numbers of a line, each cut to 32 bits and to 16, and how many there are.
 pub struct Numbers {
     pub values: [u32; MOST_NUMBERS],
+    pub sets: [u16; MOST_NUMBERS],
     pub count: usize,
 }
 
@@ -108,6 +110,7 @@ fn number_of(text: &[u8]) -> u32 {
 // The numbers of a line from a place on, each behind a blank.
 pub fn numbers_of(line: &[u8], start: usize) -> Numbers {
     let mut values = [0u32; MOST_NUMBERS];
+    let mut sets = [0u16; MOST_NUMBERS];
     let mut count = 0;
     let mut at = start;
     while at < line.len() {
@@ -115,9 +118,15 @@ pub fn numbers_of(line: &[u8], start: usize) -> Numbers {
             break;
         }
         let end = end_of(line, at);
-        values[count] = number_of(&line[at..end]);
+        let number = number_of(&line[at..end]);
+        values[count] = number;
+        sets[count] = to_u16(number);
         count += 1;
         at = end + 1;
     }
-    Numbers { values, count }
+    Numbers {
+        values,
+        sets,
+        count,
+    }
 }
