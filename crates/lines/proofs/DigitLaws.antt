@@ -81,9 +81,6 @@ decimal-short (suc more) v h =
     omega arith)
     (less-or-not v 10)
 
-pub decimal-short-8 : (v : ℕ) → v < 256 → length (decimal v) ≤ 3
-decimal-short-8 v h = decimal-short 2 v (omega arith)
-
 pub decimal-short-16 : (v : ℕ) → v < 65536 → length (decimal v) ≤ 5
 decimal-short-16 v h = decimal-short 4 v (omega arith)
 

@@ -7,7 +7,7 @@ use native.Mathlib.Nat.{add-assoc, add-zero}
 use native.Mathlib.Numerals.{add-one}
 use mathlib.Core.Bool.{true, false}
 use lib.Dec.{leb}
-use lib.ListN.{length, take, drop, set, length-append, length-drop, length-set}
+use lib.ListN.{length, take, drop, set, length-append, length-set}
 use lib.Seq.{length-take-le, take-at, drop-at, drop-append-add, drop-drop, set-split, take-set-le, paste-zero}
 use Rattle.lines.specs.Digits.{Text}
 use Rattle.lines.specs.Printing.{written, Puts, PutsWithin, Prints, lineRoom}
@@ -37,10 +37,6 @@ put-last buffer at a byte h =
 module _ (buffer : List ℕ) (at : ℕ) (inside : at ≤ length buffer) where
   front : (a : Text) → length (take at buffer ++ a) ≡ at + length a
   front a = length-append (take at buffer) a ∙ ap (λ (n : ℕ). n + length a) (length-take-le at buffer inside)
-
-  pub length-written : (a : Text) → at + length a ≤ length buffer → length (written a at buffer) ≡ length buffer
-  unfolding written
-  length-written a h = rw (length-append, front a, length-drop) (omega arith)
 
   pub written-then : (a b : Text) → written b (at + length a) (written a at buffer) ≡ written (a ++ b) at buffer
   unfolding written

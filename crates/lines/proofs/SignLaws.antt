@@ -2,19 +2,17 @@
 use mathlib.Core.Path.{_≡_, refl, sym, _∙_, ap}
 use mathlib.Core.Bool.{true, false, true≢false}
 use mathlib.Core.List.{[], _∷_, _++_}
-use Prim.Native.Nat.{suc, _+_, _≤_}
+use Prim.Native.Nat.{suc, _≤_}
 use native.Mathlib.Nat.{zero-add}
 use native.Mathlib.Omega.{arith}
 use borrow.Author.Tests.{le-ltb}
 use lib.Dec.{T}
 use lib.IntN.{ℤ, pos, negsuc, _-ℤ_, natAbs}
-use lib.ListN.{length}
 use lib.Signed.{ltZ, nonNeg}
 use mir.Syntax.{w16, w32}
 use mir.Val.{SFits, toZ, ofZ}
 use mir.ValLaws.{toZ-ofZ}
 use Rattle.lines.specs.Digits.{decimal, signed}
-use Rattle.lines.proofs.DigitLaws.{decimal-short}
 
 pub widened : (z : ℤ) → SFits w16 z → SFits w32 z
 widened z f = record { sfits = let narrow = f .sfits in omega arith }
@@ -65,19 +63,8 @@ module _ (z : ℤ) (f : SFits w16 z) (from : ltZ (toZ w16 (ofZ w16 z)) (pos 0) �
       by (pos n) e = refl
       by (negsuc n) e = absurd (true≢false e)
 
--- ════ How large, and how long ════
+-- ════ How large ════
 
 pub magnitude-small : (z : ℤ) → SFits w16 z → natAbs z ≤ 32768
 magnitude-small (pos n) f = let narrow = f .sfits in omega arith
 magnitude-small (negsuc n) f = let narrow = f .sfits in omega arith
-
-pub signed-short : (z : ℤ) → SFits w16 z → length (signed z) ≤ 6
-unfolding signed
-signed-short (pos n) f =
-    let narrow = f .sfits in
-    let few = decimal-short 4 n (omega arith) in
-    omega arith
-signed-short (negsuc n) f =
-    let narrow = f .sfits in
-    let few = decimal-short 4 (suc n) (omega arith) in
-    omega arith

@@ -2,7 +2,7 @@
 -- its blank in at most seven bytes. Assumes nothing.
 use mathlib.Core.Path.{_≡_, refl, _∙_}
 use mathlib.Core.List.{map}
-use Prim.Native.Nat.{_+_, _*_, _-_, _≤_, min}
+use Prim.Native.Nat.{_*_, _-_, _≤_, min}
 use native.Mathlib.Numerals.{add-one}
 use native.Mathlib.Omega.{arith}
 use lib.IntN.{pos}
@@ -13,7 +13,7 @@ use mir.ValLaws.{toZ-ofZ}
 use Rattle.lines.specs.Digits.{signed}
 use Rattle.lines.specs.Printing.{PutsWithin}
 use Rattle.lines.specs.Words.{following}
-use Rattle.lines.proofs.PrintLaws.{puts-nothing, puts-then}
+use Rattle.lines.proofs.PrintLaws.{puts-nothing, within-then}
 use Rattle.lines.proofs.WordLaws.{following-none, following-more, take-seven}
 use Rattle.lines.proofs.fields.put_core.Statement.{statement}
 use Rattle.lines.proofs.fields.put_core.Tie as tie
@@ -64,10 +64,11 @@ loop-again c =
     let fits = element at-call in
     let field = rw (toZ-ofZ w16 _ fits) at (c .before .before .put-signed-field .ensures) in
     let seven : length core ≡ 7 = start .good .1 .1 .0 .1 .0 .1 in
-    let put = puts-then (omega arith) (turn .loop .inv .2 .puts) (field .puts) in (
+    let put = within-then (omega arith) (turn .loop .inv .2) field in
+    let within = put .within in (
       omega arith,
       c .before .before .put-signed-field .kept .0 ∙ turn .loop .inv .1,
-      record { puts = rw (add-one, following-more core (turn .loop .seat) (omega arith)) put; within = omega arith },
+      record { puts = rw (add-one, following-more core (turn .loop .seat) (omega arith)) (put .puts); within = omega arith },
     )
 
 same-length : tie.Need-same-length Inv-loop μ-loop
