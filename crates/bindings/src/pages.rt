@@ -3,7 +3,7 @@
 use farm::refusals::Refusal;
 use farm::refusals::number;
 use lines::printing::Printed;
-use page::writing::write_page;
+use page::whole::write_page;
 ghost use Rattle.record.specs.Document.{readingOf};
 ghost use Rattle.page.specs.Page.{pageOf};
 ghost use Rattle.bindings.specs.Codes.{PageTold};

@@ -39,7 +39,6 @@ use Rattle.record.proofs.AcceptedLaws.{answer-accepted, answer-refused}
 use Rattle.questions.specs.declared.answers.Given.the-variants.{Refused}
 use Rattle.questions.specs.Question.{Lent, looking, farmOfRecord, marksOf, settledIn}
 use Rattle.questions.specs.Accepted.{Accepted, marksOn}
-use Rattle.questions.specs.Answers.{into}
 use Rattle.carriers.specs.Loading.{lossesLeft, seatsLeft, timesLeft, sizesOf, lossCount}
 use Rattle.questions.proofs.MarkLaws.{marks-of-edits}
 

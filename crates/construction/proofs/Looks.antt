@@ -16,7 +16,7 @@ use Rattle.farm.specs.declared.places.Seat.{Seat}
 use Rattle.farm.specs.declared.places.Time.{Time}
 use Rattle.farm.proofs.Cases.{less-or-not}
 use Rattle.farm.proofs.SetLaws.{collect-equal}
-use Rattle.knowledge.specs.Farm.{Farm, lostIn, losesIn, losesBy, losersBy, losers, time}
+use Rattle.knowledge.specs.Farm.{Farm, lostIn, losesIn, losesBy, losersBy, losers}
 use Rattle.knowledge.specs.Views.{View, upTo, view, viewOf, viewsOf}
 use Rattle.knowledge.specs.Known.{missedAt, missed, knownIn, knownOf}
 use Rattle.knowledge.specs.Settled.{settled, criticalTime, coreView, next, reached, settleFrom, outcomeOf}

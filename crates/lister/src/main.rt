@@ -7,8 +7,8 @@ use crate::input::take_input;
 use libc::STDERR_FILENO;
 use libc::STDOUT_FILENO;
 use lines::printing::Printed;
-use page::writing::PAGE_ROOM;
-use page::writing::write_page;
+use page::whole::PAGE_ROOM;
+use page::whole::write_page;
 
 // The longest good record, and one byte more: enough to see that a record is too long.
 const LONGEST: usize = 4_990;

@@ -1,6 +1,6 @@
 -- The second pass over a good record: each turn takes what the first pass took, and puts it in its place.
 -- Assumes nothing.
-use mathlib.Core.Path.{_≡_, refl, sym, _∙_, ap, ap₂, subst}
+use mathlib.Core.Path.{_≡_, refl, sym, _∙_, ap, subst}
 use mathlib.Core.Bool.{Bool, true, false}
 use mathlib.Core.List.{List, [], _∷_}
 use Prim.Native.Nat.{ℕ, suc, _+_, _-_, _<_, _≤_}
@@ -20,7 +20,7 @@ use Rattle.record.specs.Edits.{follows, takeEdit, takeEdits}
 use Rattle.reading.specs.Filling.{Gives, given, takeNumbers, AllBelow, EditsFilled}
 use Rattle.record.specs.Tables.{Tables, tables, over, seatsOf, timesOf, cellsOf, changesOf}
 use Rattle.checking.specs.Parts.{passedIn}
-use Rattle.record.proofs.TakingLaws.{bind-value, when-value, value-not-refused}
+use Rattle.record.proofs.TakingLaws.{bind-value, value-not-refused}
 use Rattle.numbers.proofs.CursorLaws.{cursor-drop, Placed}
 use Rattle.checking.proofs.PassedLaws.{passed-mapped}
 use Rattle.record.proofs.TableLaws.{over-none, over-first, Column, column-start, column-on, column-end}

@@ -10,7 +10,7 @@ use crate::text::LINE_ROOM;
 use crate::text::fresh;
 use crate::text::take_bytes;
 use libc::STDIN_FILENO;
-use page::writing::PAGE_ROOM;
+use page::whole::PAGE_ROOM;
 
 // How much is read at once.
 const INPUT_ROOM: usize = 65_536;

@@ -2,7 +2,7 @@
 use libc::STDERR_FILENO;
 use libc::STDOUT_FILENO;
 use lines::printing::Printed;
-use page::writing::write_page;
+use page::whole::write_page;
 ghost use Prim.Native.Nat.{_≤_};
 ghost use lib.ListN.{length};
 

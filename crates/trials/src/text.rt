@@ -5,7 +5,7 @@ use crate::digits::digit_of;
 use crate::output::print;
 use crate::output::print_front;
 use crate::output::print_page;
-use page::writing::PAGE_ROOM;
+use page::whole::PAGE_ROOM;
 ghost use Rattle.trials.specs.Lines.{Within};
 
 // Of a record the first 4,991 bytes are taken, one more than a good record can have.

@@ -1,4 +1,4 @@
--- `page::writing::put_page` meets its contract: the first line, and the lines of all times where it ends.
+-- `page::whole::put_page` meets its contract: the first line, and the lines of all times where it ends.
 -- Assumes nothing.
 use mathlib.Core.Path.{sym, _∙_}
 use native.Mathlib.Nat.{mul-le-mul}
@@ -10,8 +10,8 @@ use Rattle.lines.specs.Printing.{PutsWithin}
 use Rattle.lines.proofs.PrintLaws.{within-then}
 use Rattle.page.specs.Page.{numbersOf}
 use Rattle.page.proofs.LineLaws.{printed-put}
-use Rattle.page.proofs.writing.put_page.Statement.{statement}
-use Rattle.page.proofs.writing.put_page.Tie as tie
+use Rattle.page.proofs.whole.put_page.Statement.{statement}
+use Rattle.page.proofs.whole.put_page.Tie as tie
 
 -- ════ The way back from a place of the code to the one before it ════
 

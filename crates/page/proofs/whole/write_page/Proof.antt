@@ -1,4 +1,4 @@
--- `page::writing::write_page` meets its contract: nothing without room, the one line of a bad record, or the page of the
+-- `page::whole::write_page` meets its contract: nothing without room, the one line of a bad record, or the page of the
 -- record that was read. Assumes nothing.
 use mathlib.Core.Path.{_≡_}
 use Prim.Native.Nat.{_≤_}
@@ -10,8 +10,8 @@ use Rattle.page.specs.Page.{pageOf}
 use Rattle.page.specs.Printing.{Holds, pageHeld, pageRoom}
 use Rattle.page.proofs.PageLaws.{read-good, read-bad, page-nowhere, page-put, page-printed}
 use borrow.Author.Needs.{needs}
-use Rattle.page.proofs.writing.write_page.Statement.{statement}
-use Rattle.page.proofs.writing.write_page.Tie as tie
+use Rattle.page.proofs.whole.write_page.Statement.{statement}
+use Rattle.page.proofs.whole.write_page.Tie as tie
 
 -- ════ The way back from a place of the code to the one before it ════
 
