@@ -1,5 +1,6 @@
 -- Every public function of the crate states its outcome completely: the answer, and every lent byte.
 -- Assumes nothing.
+use mathlib.Core.Path.{refl, sym, _∙_}
 use Rattle.farm.proofs.Complete.{Complete, by-facts}
 use Rattle.live_questions.proofs.carrier.check_table as check-table
 use Rattle.live_questions.proofs.asks.seen as seen
@@ -21,43 +22,43 @@ pub check-table-complete : Complete check-table.ended (λ M. check-table.clauses
 check-table-complete M 𝓤 H A mem run κs a g r s v w = by-facts M 𝓤 _ _ _ (λ p q. (cc, cc))
 
 pub seen-complete : Complete seen.ended (λ M. seen.clauses {M = M})
-seen-complete M 𝓤 H A mem run κs a g r s v w = by-facts M 𝓤 _ _ _ (λ p q. (cc, cc))
+seen-complete M 𝓤 H A mem run κs a g r s v w = by-facts M 𝓤 _ _ _ (λ p q. (p ∙ sym q, refl))
 
 pub agreed-complete : Complete agreed.ended (λ M. agreed.clauses {M = M})
-agreed-complete M 𝓤 H A mem run κs a g r s v w = by-facts M 𝓤 _ _ _ (λ p q. (cc, cc))
+agreed-complete M 𝓤 H A mem run κs a g r s v w = by-facts M 𝓤 _ _ _ (λ p q. (p ∙ sym q, refl))
 
 pub standing-complete : Complete standing.ended (λ M. standing.clauses {M = M})
-standing-complete M 𝓤 H A mem run κs a g r s v w = by-facts M 𝓤 _ _ _ (λ p q. (cc, cc))
+standing-complete M 𝓤 H A mem run κs a g r s v w = by-facts M 𝓤 _ _ _ (λ p q. (p ∙ sym q, refl))
 
 pub view-complete : Complete view.ended (λ M. view.clauses {M = M})
-view-complete M 𝓤 H A mem run κs a g r s v w = by-facts M 𝓤 _ _ _ (λ p q. (cc, cc))
+view-complete M 𝓤 H A mem run κs a g r s v w = by-facts M 𝓤 _ _ _ (λ p q. (p .answered ∙ sym (q .answered), cc))
 
 pub core-complete : Complete core.ended (λ M. core.clauses {M = M})
-core-complete M 𝓤 H A mem run κs a g r s v w = by-facts M 𝓤 _ _ _ (λ p q. (cc, cc))
+core-complete M 𝓤 H A mem run κs a g r s v w = by-facts M 𝓤 _ _ _ (λ p q. (p .answered ∙ sym (q .answered), cc))
 
 pub marks-complete : Complete marks.ended (λ M. marks.clauses {M = M})
-marks-complete M 𝓤 H A mem run κs a g r s v w = by-facts M 𝓤 _ _ _ (λ p q. (cc, cc))
+marks-complete M 𝓤 H A mem run κs a g r s v w = by-facts M 𝓤 _ _ _ (λ p q. (p .answered ∙ sym (q .answered), cc))
 
 pub write-out-complete : Complete write-out.ended (λ M. write-out.clauses {M = M})
 write-out-complete M 𝓤 H A mem run κs a g r s v w = by-facts M 𝓤 _ _ _ (λ p q. (cc, cc))
 
 pub seen-from-complete : Complete seen-from.ended (λ M. seen-from.clauses {M = M})
-seen-from-complete M 𝓤 H A mem run κs a g r s v w = by-facts M 𝓤 _ _ _ (λ p q. (cc, cc))
+seen-from-complete M 𝓤 H A mem run κs a g r s v w = by-facts M 𝓤 _ _ _ (λ p q. (p ∙ sym q, refl))
 
 pub agreed-from-complete : Complete agreed-from.ended (λ M. agreed-from.clauses {M = M})
-agreed-from-complete M 𝓤 H A mem run κs a g r s v w = by-facts M 𝓤 _ _ _ (λ p q. (cc, cc))
+agreed-from-complete M 𝓤 H A mem run κs a g r s v w = by-facts M 𝓤 _ _ _ (λ p q. (p ∙ sym q, refl))
 
 pub standing-from-complete : Complete standing-from.ended (λ M. standing-from.clauses {M = M})
-standing-from-complete M 𝓤 H A mem run κs a g r s v w = by-facts M 𝓤 _ _ _ (λ p q. (cc, cc))
+standing-from-complete M 𝓤 H A mem run κs a g r s v w = by-facts M 𝓤 _ _ _ (λ p q. (p ∙ sym q, refl))
 
 pub view-from-complete : Complete view-from.ended (λ M. view-from.clauses {M = M})
-view-from-complete M 𝓤 H A mem run κs a g r s v w = by-facts M 𝓤 _ _ _ (λ p q. (cc, cc))
+view-from-complete M 𝓤 H A mem run κs a g r s v w = by-facts M 𝓤 _ _ _ (λ p q. (p .answered ∙ sym (q .answered), cc))
 
 pub core-from-complete : Complete core-from.ended (λ M. core-from.clauses {M = M})
-core-from-complete M 𝓤 H A mem run κs a g r s v w = by-facts M 𝓤 _ _ _ (λ p q. (cc, cc))
+core-from-complete M 𝓤 H A mem run κs a g r s v w = by-facts M 𝓤 _ _ _ (λ p q. (p .answered ∙ sym (q .answered), cc))
 
 pub marks-from-complete : Complete marks-from.ended (λ M. marks-from.clauses {M = M})
-marks-from-complete M 𝓤 H A mem run κs a g r s v w = by-facts M 𝓤 _ _ _ (λ p q. (cc, cc))
+marks-from-complete M 𝓤 H A mem run κs a g r s v w = by-facts M 𝓤 _ _ _ (λ p q. (p .answered ∙ sym (q .answered), cc))
 
 pub write-from-complete : Complete write-from.ended (λ M. write-from.clauses {M = M})
 write-from-complete M 𝓤 H A mem run κs a g r s v w = by-facts M 𝓤 _ _ _ (λ p q. (cc, cc))

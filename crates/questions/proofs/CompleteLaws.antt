@@ -1,6 +1,6 @@
 -- Every public function of the crate states its outcome completely.
 -- Assumes nothing.
-use mathlib.Core.Path.{refl}
+use mathlib.Core.Path.{refl, sym, _∙_}
 use Rattle.farm.proofs.Complete.{Complete, by-facts}
 use Rattle.questions.proofs.times.put_times as put-times
 use Rattle.questions.proofs.views.is_place as is-place
@@ -18,31 +18,31 @@ pub put-times-complete : Complete put-times.ended (λ M. put-times.clauses {M = 
 put-times-complete M 𝓤 H A mem run κs a g r s v w = by-facts M 𝓤 _ _ _ (λ p q. (refl, cc))
 
 pub is-place-complete : Complete is-place.ended (λ M. is-place.clauses {M = M})
-is-place-complete M 𝓤 H A mem run κs a g r s v w = by-facts M 𝓤 _ _ _ (λ p q. (cc, cc))
+is-place-complete M 𝓤 H A mem run κs a g r s v w = by-facts M 𝓤 _ _ _ (λ p q. (p ∙ sym q, refl))
 
 pub none-seen-complete : Complete none-seen.ended (λ M. none-seen.clauses {M = M})
-none-seen-complete M 𝓤 H A mem run κs a g r s v w = by-facts M 𝓤 _ _ _ (λ p q. (cc, cc))
+none-seen-complete M 𝓤 H A mem run κs a g r s v w = by-facts M 𝓤 _ _ _ (λ p q. (p ∙ sym q, refl))
 
 pub ask-view-into-complete : Complete ask-view-into.ended (λ M. ask-view-into.clauses {M = M})
-ask-view-into-complete M 𝓤 H A mem run κs a g r s v w = by-facts M 𝓤 _ _ _ (λ p q. (cc, cc))
+ask-view-into-complete M 𝓤 H A mem run κs a g r s v w = by-facts M 𝓤 _ _ _ (λ p q. (p .answered ∙ sym (q .answered), cc))
 
 pub ask-seen-complete : Complete ask-seen.ended (λ M. ask-seen.clauses {M = M})
-ask-seen-complete M 𝓤 H A mem run κs a g r s v w = by-facts M 𝓤 _ _ _ (λ p q. (cc, cc))
+ask-seen-complete M 𝓤 H A mem run κs a g r s v w = by-facts M 𝓤 _ _ _ (λ p q. (p ∙ sym q, refl))
 
 pub ask-standing-complete : Complete ask-standing.ended (λ M. ask-standing.clauses {M = M})
-ask-standing-complete M 𝓤 H A mem run κs a g r s v w = by-facts M 𝓤 _ _ _ (λ p q. (cc, cc))
+ask-standing-complete M 𝓤 H A mem run κs a g r s v w = by-facts M 𝓤 _ _ _ (λ p q. (p ∙ sym q, refl))
 
 pub ask-core-into-complete : Complete ask-core-into.ended (λ M. ask-core-into.clauses {M = M})
-ask-core-into-complete M 𝓤 H A mem run κs a g r s v w = by-facts M 𝓤 _ _ _ (λ p q. (cc, cc))
+ask-core-into-complete M 𝓤 H A mem run κs a g r s v w = by-facts M 𝓤 _ _ _ (λ p q. (p .answered ∙ sym (q .answered), cc))
 
 pub count-marks-complete : Complete count-marks.ended (λ M. count-marks.clauses {M = M})
-count-marks-complete M 𝓤 H A mem run κs a g r s v w = by-facts M 𝓤 _ _ _ (λ p q. (cc, cc))
+count-marks-complete M 𝓤 H A mem run κs a g r s v w = by-facts M 𝓤 _ _ _ (λ p q. (p ∙ sym q, refl))
 
 pub ask-marks-complete : Complete ask-marks.ended (λ M. ask-marks.clauses {M = M})
-ask-marks-complete M 𝓤 H A mem run κs a g r s v w = by-facts M 𝓤 _ _ _ (λ p q. (cc, cc))
+ask-marks-complete M 𝓤 H A mem run κs a g r s v w = by-facts M 𝓤 _ _ _ (λ p q. (p .answered ∙ sym (q .answered), cc))
 
 pub none-agreed-complete : Complete none-agreed.ended (λ M. none-agreed.clauses {M = M})
-none-agreed-complete M 𝓤 H A mem run κs a g r s v w = by-facts M 𝓤 _ _ _ (λ p q. (cc, cc))
+none-agreed-complete M 𝓤 H A mem run κs a g r s v w = by-facts M 𝓤 _ _ _ (λ p q. (p ∙ sym q, refl))
 
 pub ask-agreed-complete : Complete ask-agreed.ended (λ M. ask-agreed.clauses {M = M})
-ask-agreed-complete M 𝓤 H A mem run κs a g r s v w = by-facts M 𝓤 _ _ _ (λ p q. (cc, cc))
+ask-agreed-complete M 𝓤 H A mem run κs a g r s v w = by-facts M 𝓤 _ _ _ (λ p q. (p ∙ sym q, refl))

@@ -4,7 +4,7 @@
 use mathlib.Core.Path.{_≡_, refl, sym, _∙_, ap, fun-ext}
 use mathlib.Core.Logic.{⊎-elim}
 use mathlib.Core.List.{List}
-use Prim.Native.Nat.{ℕ, _+_, _-_, _^_, _<_, _≤_}
+use Prim.Native.Nat.{ℕ, _<_, _≤_}
 use native.Mathlib.Nat.{le-antisymm}
 use native.Mathlib.Omega.{arith}
 use lib.ListN.{length}
@@ -22,15 +22,12 @@ use Rattle.knowledge.proofs.ViewTheory.{view-past}
 use Rattle.knowledge.proofs.CriticalTime.{core-from}
 use Rattle.knowledge.proofs.ChainTheory.{stage-falls}
 use Rattle.knowledge.proofs.OutcomeTheory.{outcome-exists, answer-fixed}
-use mir.Syntax.{w16}
-use mir.Val.{SFits}
 use Rattle.viewing.specs.Counts.{counts, held, below, filled}
 use Rattle.construction.specs.Answers.{answerFor, settledFor}
 use Rattle.construction.specs.declared.settled.Settled as construction
 use Rattle.construction.specs.declared.settled.Answer.{Answer}
 use Rattle.construction.specs.declared.settled.Ruling.the-variants.{Answered, Refused}
 use Rattle.viewing.proofs.CountLaws.{getD-filled, below-out, getD-past}
-use Rattle.construction.proofs.SettleSteps.{minus-fits, critical-is}
 use Rattle.viewing.proofs.ViewSteps.{held-counts}
 use Rattle.questions.specs.Question.{Asked, found, refused, Lent, looking, ofOutcome, settledIn}
 use Rattle.questions.specs.Accepted.{InTime, Found, Settles, coreIn}
@@ -53,14 +50,6 @@ module _ (farm : Farm) (fits : farm .bound < farm .seats) (p : Seat) (ℓ : Time
   kept-within =
       let o = outcome-was in
       rw (o .1 .kept) (stage-falls farm fits p ℓ here (o .0) (s .steps) .within)
-
-  -- The critical time fits a signed number of 16 bits.
-  pub critical-fits : ℓ .0 < 2 ^ 15 → farm .bound + 1 < 2 ^ 15 → SFits w16 (s .critical)
-  critical-fits early low =
-      let small = kept-within in
-      let same = answer-fixed farm p ℓ s (outcome-was .1) .1 in
-      rw (same, ← critical-is farm (ℓ .0) (s .kept) small)
-      (minus-fits (ℓ .0) (farm .bound + 1 - size (farm .seats) (s .kept)) early (omega arith))
 
   core-was : (q j : ℕ) → j < s .core q → (q < farm .seats) × (j < ℓ .0)
   core-was q j h =

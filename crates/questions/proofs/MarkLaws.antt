@@ -1,7 +1,6 @@
 -- Marks and counts of edits: over the two lists of their places, entry by entry, and over the edits themselves.
 -- Assumes nothing.
-use mathlib.Core.Path.{_≡_, refl, sym, _∙_, ap, fun-ext}
-use mathlib.Core.Logic.{⊎-elim}
+use mathlib.Core.Path.{_≡_, refl, ap}
 use mathlib.Core.Bool.{Bool, true, false, cond}
 use mathlib.Core.List.{List, [], _∷_}
 use Prim.Native.Nat.{ℕ, zero, suc, _+_, _<_, _≤_}
@@ -15,14 +14,10 @@ use borrow.Author.Tests.{lt-ltb, le-ltb}
 use Rattle.farm.specs.declared.places.Seat.{Seat}
 use Rattle.farm.specs.declared.places.Time.{Time}
 use Rattle.farm.specs.declared.refusals.Refusal.{Refusal}
-use Rattle.farm.proofs.Cases.{less-or-not}
-use Rattle.knowledge.specs.Farm.{Farm, IsSeat}
+use Rattle.knowledge.specs.Farm.{Farm}
 use Rattle.knowledge.specs.Views.{View}
 use Rattle.knowledge.specs.Settled.{Settled, hasPlace}
-use Rattle.viewing.specs.Counts.{counts, held, below, filled}
-use Rattle.construction.specs.declared.settled.Answer.{Answer}
-use Rattle.viewing.proofs.CountLaws.{getD-filled, below-out, getD-past}
-use Rattle.viewing.proofs.ViewSteps.{held-counts}
+use Rattle.viewing.specs.Counts.{held}
 use Rattle.record.specs.declared.edits.Edit.{Edit}
 use Rattle.record.specs.Tables.{seatsOf, timesOf}
 use Rattle.questions.specs.Marks.{markAt, marksIn, countIn}
