@@ -14,8 +14,7 @@ use Rattle.record.specs.declared.answers.Checked.{Checked}
 use Rattle.record.specs.declared.answers.Checked.the-variants as checked
 use Rattle.record.specs.declared.answers.Written.{Written}
 use Rattle.record.specs.declared.answers.Written.the-variants as put
-use Rattle.record.specs.Answers.{writtenIn}
-use Rattle.record.specs.Answers.{checkedOf}
+use Rattle.record.specs.Answers.{writtenIn, checkedOf}
 use Rattle.record.specs.Tables.{Tables, TablesRead, readInto}
 use Rattle.record.specs.Writing.{writtenTo, bufferAfter}
 use Rattle.questions.specs.declared.answers.Given.{Given}

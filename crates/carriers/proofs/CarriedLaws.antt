@@ -25,12 +25,11 @@ use Rattle.record.specs.declared.answers.Checked.the-variants.{Good, Refused}
 use Rattle.record.specs.Taking.{IsBytes}
 use Rattle.record.specs.Record.{Record, Reading, good, bad}
 use Rattle.record.specs.Document.{readingOf}
-use Rattle.record.specs.Answers.{checkedOf}
+use Rattle.record.specs.Answers.{checkedOf, judgedIn}
 use Rattle.record.specs.Tables.{Tables, seatsOf, timesOf}
 use Rattle.record.specs.declared.answers.Judged.{Judged}
 use Rattle.record.specs.declared.answers.Judged.the-variants as judged-as
 use Rattle.record.specs.Writing.{judgedLists, recordFrom, checkedLists, headerFrom}
-use Rattle.record.specs.Answers.{judgedIn}
 use Rattle.record.proofs.WritingLaws.{lists-accepted}
 use lib.Seq.{take-all, take-length}
 use Rattle.record.proofs.GoodLaws.{record-facts}

@@ -23,13 +23,12 @@ use Rattle.record.specs.declared.answers.Checked.the-variants as checked-as
 use Rattle.record.specs.Taking.{IsBytes}
 use Rattle.record.specs.Record.{Record, Reading, good, bad}
 use Rattle.record.specs.Document.{readingOf}
-use Rattle.record.specs.Answers.{checkedOf}
+use Rattle.record.specs.Answers.{checkedOf, judgedIn}
 use Rattle.record.specs.Good.{goodRecord}
 use Rattle.record.specs.Tables.{Tables, seatsOf, timesOf, readInto, tablesAfter}
 use Rattle.reading.specs.Outcome.{ReadOutcome}
 use Rattle.record.specs.Columns.{tablesOf}
 use Rattle.record.specs.Writing.{judgedLists, recordFrom, checkedLists, judged}
-use Rattle.record.specs.Answers.{judgedIn}
 use Rattle.record.proofs.GoodLaws.{record-facts, header-facts}
 use Rattle.record.proofs.ColumnLaws.{take-over, length-seats, length-times}
 use Rattle.reading.proofs.ReadLaws.{Room, enough}

@@ -9,8 +9,7 @@ use Rattle.viewing.specs.declared.sizes.Sizes.{Sizes}
 use Rattle.record.specs.declared.header.Header.{Header}
 use Rattle.record.specs.Record.{Reading, good, bad}
 use Rattle.record.specs.Tables.{seatsOf, timesOf, over}
-use Rattle.record.specs.Writing.{checkedLists}
-use Rattle.record.specs.Writing.{listsOf}
+use Rattle.record.specs.Writing.{checkedLists, listsOf}
 
 unfoldable pub lossesLeft : Reading → List Seats → List Seats
 lossesLeft (good r) old = over 0 (r .losses) old

@@ -22,8 +22,7 @@ ghost use Rattle.farm.specs.Limits.{limits};
 ghost use Rattle.record.specs.declared.edits.Before.the-variants.{Nothing};
 ghost use Rattle.record.specs.Good.{goodHeader, senderAfter, goodSets, goodEdit};
 ghost use Rattle.record.specs.Tables.{editsFrom};
-ghost use Rattle.record.specs.Writing.{fitting, judgedEdits, judgedLists};
-ghost use Rattle.record.specs.Writing.{listsOf};
+ghost use Rattle.record.specs.Writing.{fitting, judgedEdits, judgedLists, listsOf};
 ghost use Rattle.record.specs.Answers.{judgedIn};
 
 fn good_header(seats: u8, bound: u8, rounds: u16, edits: usize) -> bool

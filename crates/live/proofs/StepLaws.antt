@@ -18,7 +18,7 @@ use Rattle.farm.specs.Sets.{Seats}
 use Rattle.farm.specs.declared.places.Seat.{Seat}
 use Rattle.farm.specs.declared.refusals.Refusal.{Refusal}
 use Rattle.farm.specs.declared.refusals.Refusal.the-variants.{OutOfRange, BadOrder, RoundsFull, EditsFull, BadTable}
-use Rattle.record.specs.Writing.{listsOf}
+use Rattle.record.specs.Writing.{listsOf, Verdict, accepted, faulty, unless, headerFrom, fitting, judgedEdits, recordFrom, judgedLists, judged, checkedLists}
 use Rattle.record.specs.Changes.{mapped}
 use Rattle.record.specs.Columns.{tablesOf}
 use Rattle.record.specs.Edits.{follows}
@@ -26,7 +26,6 @@ use Rattle.record.specs.Faults.{lastOf}
 use Rattle.record.specs.Good.{goodHeader, goodEdit, goodRecord}
 use Rattle.record.specs.Record.{Record, good, bad}
 use Rattle.record.specs.Tables.{Tables, over, editOf, editsFrom}
-use Rattle.record.specs.Writing.{Verdict, accepted, faulty, unless, headerFrom, fitting, judgedEdits, recordFrom, judgedLists, judged, checkedLists}
 use Rattle.record.specs.declared.edits.Before.{Before}
 use Rattle.record.specs.declared.edits.Before.the-variants.{Nothing, This}
 use Rattle.record.specs.declared.edits.Edit.{Edit}

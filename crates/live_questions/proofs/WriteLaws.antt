@@ -8,12 +8,11 @@ use native.Mathlib.Omega.{arith}
 use lib.ListN.{length, take}
 use Rattle.farm.specs.Limits.{limits}
 use Rattle.farm.specs.declared.refusals.Refusal.the-variants.{BadTable}
-use Rattle.record.specs.Writing.{listsOf}
+use Rattle.record.specs.Writing.{listsOf, checkedLists, answered, writtenTo, bufferWith, bufferAfter}
 use Rattle.record.specs.Answers.{writtenIn}
 use Rattle.record.specs.Columns.{tablesOf}
 use Rattle.record.specs.Good.{goodRecord}
 use Rattle.record.specs.Tables.{Tables}
-use Rattle.record.specs.Writing.{checkedLists, answered, writtenTo, bufferWith, bufferAfter}
 use Rattle.record.specs.declared.answers.Written.{Written}
 use Rattle.record.specs.declared.answers.Written.the-variants.{Refused as NotWritten}
 use Rattle.record.proofs.ColumnLaws.{Columns, columns-from-edits}

@@ -24,9 +24,8 @@ use Rattle.record.specs.Header.{takeHeader}
 use Rattle.record.specs.Losses.{goodSet, takeSet, takeRound, takeRounds}
 use Rattle.record.specs.Edits.{takeEdits}
 use Rattle.record.specs.Record.{Record, Reading, good, bad, takeRecord, whole, readingOf}
-use Rattle.reading.specs.Filling.{Gives, given, takeNumbers, AllBelow}
+use Rattle.reading.specs.Filling.{Gives, given, takeNumbers, AllBelow, EditsFilled}
 use Rattle.record.specs.Tables.{Tables, over, seatsOf, timesOf, cellsOf, changesOf, roomy, readInto, tablesAfter, TablesRead, Accepted}
-use Rattle.reading.specs.Filling.{EditsFilled}
 use Rattle.reading.specs.Outcome.{ReadOutcome}
 use Rattle.numbers.specs.Cursors.{cursorAt}
 use Rattle.checking.specs.Parts.{passedIn}

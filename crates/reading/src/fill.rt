@@ -18,10 +18,9 @@ ghost use Rattle.record.specs.declared.edits.Before.the-variants.{Nothing};
 ghost use Rattle.checking.specs.declared.answers.Passed.the-variants.{To};
 ghost use Rattle.record.specs.Edits.{takeEdit, takeEdits};
 ghost use Rattle.checking.specs.Parts.{passedIn, editIn};
-ghost use Rattle.reading.specs.Filling.{Gives, given, takeNumbers, AllBelow};
+ghost use Rattle.reading.specs.Filling.{Gives, given, takeNumbers, AllBelow, EditsFilled};
 ghost use mathlib.Core.List.{[]};
 ghost use Rattle.record.specs.Tables.{over, tables, Accepted, TablesRead, roomy};
-ghost use Rattle.reading.specs.Filling.{EditsFilled};
 ghost use Rattle.record.specs.Document.{readingOf};
 ghost use mathlib.Core.Bool.{true};
 

@@ -9,8 +9,7 @@ ghost use Rattle.farm.specs.Limits.{limits};
 ghost use Rattle.record.specs.Header.{headerBytes};
 ghost use Rattle.record.specs.Lengths.{numbersLength, changesLength};
 ghost use Rattle.record.specs.Record.{bytesOf};
-ghost use Rattle.record.specs.Writing.{accepted, judgedLists, recordFrom};
-ghost use Rattle.record.specs.Writing.{listsOf};
+ghost use Rattle.record.specs.Writing.{accepted, judgedLists, recordFrom, listsOf};
 
 fn header_length(seats: u8, bound: u8, rounds: u16, edits: usize) -> usize
     requires { ⌜ edits < 128 ^ 3 ⌝ }

@@ -9,8 +9,7 @@ use record::answers::Written;
 ghost use mathlib.Core.Path.{_≡_};
 ghost use lib.ListN.{length};
 ghost use Rattle.farm.specs.Limits.{limits};
-ghost use Rattle.record.specs.Writing.{neededBy, writtenTo, bufferAfter};
-ghost use Rattle.record.specs.Writing.{listsOf};
+ghost use Rattle.record.specs.Writing.{neededBy, writtenTo, bufferAfter, listsOf};
 ghost use Rattle.record.specs.Answers.{writtenIn};
 
 // The length that writing these lists needs, with the refusals of writing but for the room.

@@ -11,8 +11,7 @@ ghost use Rattle.record.specs.Edits.{editBytes, editsBytes};
 ghost use Rattle.record.specs.Record.{bytesOf};
 ghost use Rattle.record.specs.Tables.{editOf, editsFrom};
 ghost use Rattle.numbers.specs.Placing.{Put};
-ghost use Rattle.record.specs.Writing.{accepted, judgedLists, recordFrom};
-ghost use Rattle.record.specs.Writing.{listsOf};
+ghost use Rattle.record.specs.Writing.{accepted, judgedLists, recordFrom, listsOf};
 
 fn put_header(out: &mut [u8], seats: u8, bound: u8, rounds: u16, edits: usize) -> usize
     requires { ⌜ (edits < 128 ^ 3) × (length (headerBytes limits (record { seats = seats; bound = bound; rounds = rounds; edits = edits })) ≤ length (now out)) ⌝ }

@@ -6,8 +6,7 @@ use lib.ListN.{length}
 use denote.Ref.{now}
 use borrow.Author.Needs.{needs}
 use Rattle.farm.specs.Limits.{limits}
-use Rattle.record.specs.Writing.{listsOf}
-use Rattle.record.specs.Writing.{headerFrom, editsIn, recordFrom}
+use Rattle.record.specs.Writing.{listsOf, headerFrom, editsIn, recordFrom}
 use Rattle.record.specs.Record.{bytesOf}
 use Rattle.record.specs.Edits.{editsBytes}
 use Rattle.record.specs.Losses.{lossBytes}
