@@ -17,7 +17,7 @@ use Rattle.record.specs.Answers.{writtenIn}
 use Rattle.record.specs.Tables.{Tables}
 use Rattle.reading.specs.Outcome.{ReadOutcome}
 use Rattle.record.specs.Writing.{writtenTo, bufferAfter}
-use Rattle.lines.specs.Digits.{Text}
+use Rattle.text.specs.Digits.{Text}
 use Rattle.lines.specs.declared.printing.Printed.{Printed}
 use Rattle.lines.specs.declared.printing.Printed.the-variants as printed
 use Rattle.page.specs.Printing.{PrintsPage}

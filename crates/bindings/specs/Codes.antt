@@ -24,8 +24,8 @@ use Rattle.live.specs.declared.answers.Done.the-variants as done
 use Rattle.live.specs.declared.table.Table.{Table}
 use Rattle.live.specs.Answers.{doneOf}
 use Rattle.live.specs.Calls.{Call, answerTo, tableAfter}
-use Rattle.lines.specs.Digits.{Text}
-use Rattle.lines.specs.Printing.{written}
+use Rattle.text.specs.Digits.{Text}
+use Rattle.text.specs.Putting.{written}
 use Rattle.lines.specs.declared.printing.Printed.{Printed}
 use Rattle.lines.specs.declared.printing.Printed.the-variants as printed
 use Rattle.page.specs.Printing.{pageRoom}

@@ -1,9 +1,6 @@
-pub mod DigitLaws
 pub mod Examples
 pub mod LineLaws
 pub mod PrintLaws
 pub mod Promises
-pub mod SignLaws
 pub mod TidyLaws
-pub mod WordLaws
 pub mod CompleteLaws

@@ -8,10 +8,10 @@ use Rattle.farm.specs.declared.places.Seat.{Seat}
 use Rattle.farm.specs.declared.places.Time.{Time}
 use Rattle.lines.specs.declared.printing.HeaderLine.{HeaderLine}
 use Rattle.lines.specs.declared.printing.PlaceLine.{PlaceLine}
-use Rattle.lines.specs.Digits.{Text, decimal, signed}
+use Rattle.text.specs.Digits.{Text, decimal, signed}
 use Rattle.lines.specs.Lines.{headerLine, standing, placeText, placeLine, overLine, refusedLine}
-use Rattle.lines.specs.Words.{ascii, blank, newline, following, line}
-use Rattle.lines.proofs.WordLaws.{following-append}
+use Rattle.text.specs.Words.{ascii, blank, newline, following, line}
+use Rattle.text.proofs.WordLaws.{following-append}
 
 -- ════ The texts, grouped as the code puts them ════
 

@@ -13,10 +13,10 @@ use Rattle.farm.specs.declared.places.Seat.{Seat}
 use Rattle.farm.specs.declared.places.Time.{Time}
 use Rattle.lines.specs.declared.printing.HeaderLine.{HeaderLine}
 use Rattle.lines.specs.declared.printing.PlaceLine.{PlaceLine}
-use Rattle.lines.specs.Digits.{Text, digit, decimal, signed}
+use Rattle.text.specs.Digits.{Text, digit, decimal, signed}
 use Rattle.lines.specs.Lines.{headerLine, standing, placeLine, overLine, refusedLine}
-use Rattle.lines.specs.Words.{ascii, blank, newline, following, line, ends, tidy}
-use Rattle.lines.proofs.DigitLaws.{by-digits, decimal-small, decimal-large}
+use Rattle.text.specs.Words.{ascii, blank, newline, following, line, ends, tidy}
+use Rattle.text.proofs.DigitLaws.{by-digits, decimal-small, decimal-large}
 
 -- ════ Solid words ════
 

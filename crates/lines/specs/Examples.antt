@@ -6,8 +6,8 @@ use mathlib.Core.List.{List, [], _∷_, map}
 use Prim.Native.Nat.{ℕ}
 use Prim.Native.String.{String}
 use lib.IntN.{ℤ, pos, negsuc}
-use Rattle.lines.specs.Digits.{Text}
-use Rattle.lines.specs.Words.{ascii}
+use Rattle.text.specs.Digits.{Text}
+use Rattle.text.specs.Words.{ascii}
 use Rattle.lines.specs.Lines.{headerLine, placeLine, overLine, refusedLine}
 
 -- ════ The shape of the table ════

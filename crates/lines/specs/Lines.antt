@@ -7,8 +7,8 @@ use Rattle.farm.specs.declared.places.Seat.{Seat}
 use Rattle.farm.specs.declared.places.Time.{Time}
 use Rattle.lines.specs.declared.printing.HeaderLine.{HeaderLine}
 use Rattle.lines.specs.declared.printing.PlaceLine.{PlaceLine}
-use Rattle.lines.specs.Digits.{Text, decimal, signed}
-use Rattle.lines.specs.Words.{ascii, following, line}
+use Rattle.text.specs.Digits.{Text, decimal, signed}
+use Rattle.text.specs.Words.{ascii, following, line}
 
 -- The first line: seats, bound, rounds, edits.
 unfoldable pub headerLine : HeaderLine → Text

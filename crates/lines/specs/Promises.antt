@@ -7,9 +7,9 @@ use Rattle.farm.specs.declared.places.Seat.{Seat}
 use Rattle.farm.specs.declared.places.Time.{Time}
 use Rattle.lines.specs.declared.printing.HeaderLine.{HeaderLine}
 use Rattle.lines.specs.declared.printing.PlaceLine.{PlaceLine}
-use Rattle.lines.specs.Digits.{digit, decimal, valueOf}
+use Rattle.text.specs.Digits.{digit, decimal, valueOf}
 use Rattle.lines.specs.Lines.{headerLine, placeLine, overLine, refusedLine}
-use Rattle.lines.specs.Words.{tidy}
+use Rattle.text.specs.Words.{tidy}
 
 -- Read back, the digits are the number.
 abbrev pub Digits-read-back : Type 0

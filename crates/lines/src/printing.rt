@@ -1,20 +1,21 @@
 // The lines of the page. Each is printed whole into a lent buffer, or refused where fewer than
 // LINE_ROOM bytes are left; a refusal changes no byte. No line is longer than LINE_ROOM.
-use crate::digits::put_number;
-use crate::fields::put_core;
-use crate::fields::put_field;
-use crate::fields::put_named;
-use crate::fields::put_signed_field;
-use crate::words::put_word;
 use farm::places::Seat;
 use farm::places::Time;
+use text::digits::put_number;
+use text::fields::put_core;
+use text::fields::put_field;
+use text::fields::put_named;
+use text::fields::put_signed_field;
+use text::words::put_word;
 ghost use mathlib.Core.Path.{_≡_};
 ghost use mathlib.Core.List.{[], _∷_};
 ghost use Prim.Native.Nat.{_+_, _≤_};
 ghost use lib.Dec.{leb};
 ghost use lib.ListN.{length};
 ghost use Rattle.lines.specs.Lines.{headerLine, placeLine, overLine, refusedLine, placeText, standing};
-ghost use Rattle.lines.specs.Printing.{PutsWithin, Prints, lineRoom};
+ghost use Rattle.text.specs.Putting.{PutsWithin};
+ghost use Rattle.lines.specs.Printing.{Prints, lineRoom};
 
 // Room for any line, in bytes.
 pub const LINE_ROOM: usize = 96;

@@ -25,9 +25,10 @@ use Rattle.questions.specs.declared.answers.Given.{Given}
 use Rattle.questions.specs.declared.answers.Agreed.{Agreed}
 use Rattle.questions.proofs.AskLaws.{settled-valued}
 use Rattle.questions.proofs.TimeLaws.{length-times}
-use Rattle.lines.specs.Digits.{Text}
+use Rattle.text.specs.Digits.{Text}
 use Rattle.lines.specs.Lines.{placeLine}
-use Rattle.lines.specs.Printing.{PutsWithin, Prints, lineRoom}
+use Rattle.text.specs.Putting.{PutsWithin}
+use Rattle.lines.specs.Printing.{Prints, lineRoom}
 use Rattle.lines.specs.declared.printing.Printed.{Printed}
 use Rattle.lines.specs.declared.printing.Printed.the-variants.{Length}
 use Rattle.page.specs.Page.{lineOf, lineAt}

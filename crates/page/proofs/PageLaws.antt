@@ -25,9 +25,10 @@ use Rattle.questions.specs.Question.{countOf, farmOfRecord}
 use Rattle.carriers.specs.Loading.{sizesOf}
 use Rattle.questions.proofs.MarkLaws.{count-of-edits}
 use Rattle.carriers.proofs.RecordLaws.{bytes-bad, bytes-good, places-left, read-count, read-edits, read-farm, read-seats, read-sizes, read-times}
-use Rattle.lines.specs.Digits.{Text}
+use Rattle.text.specs.Digits.{Text}
 use Rattle.lines.specs.Lines.{headerLine, refusedLine}
-use Rattle.lines.specs.Printing.{PutsWithin, Prints}
+use Rattle.text.specs.Putting.{PutsWithin}
+use Rattle.lines.specs.Printing.{Prints}
 use Rattle.lines.specs.declared.printing.Printed.{Printed}
 use Rattle.lines.specs.declared.printing.Printed.the-variants.{Length, NoRoom}
 use Rattle.page.specs.Page.{Counting, linesOf, numbersOf, pageOf, recordPage}

@@ -13,8 +13,8 @@ use Rattle.record.specs.Losses as Losses
 use Rattle.record.specs.Edits as Edits
 use Rattle.record.specs.Record as Record
 use Rattle.questions.specs.Question as Question
-use Rattle.lines.specs.Digits as Digits
-use Rattle.lines.specs.Words as Words
+use Rattle.text.specs.Digits as Digits
+use Rattle.text.specs.Words as Words
 use Rattle.lines.specs.Lines as Lines
 use Rattle.page.specs.Page as Page
 use Rattle.page.specs.Promises.{Printed-page, printedPage, Over-page, overPage, Bad-records, No-input}

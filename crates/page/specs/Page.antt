@@ -11,7 +11,7 @@ use Rattle.knowledge.specs.Settled.{Outcome, overBound, settled, outcomeOf}
 use Rattle.record.specs.declared.header.Header.{Header}
 use Rattle.record.specs.Record.{Record, Reading, good, bad}
 use Rattle.questions.specs.Question.{countOf, farmOfRecord}
-use Rattle.lines.specs.Digits.{Text}
+use Rattle.text.specs.Digits.{Text}
 use Rattle.lines.specs.Lines.{headerLine, placeLine, overLine, refusedLine}
 use Rattle.lines.specs.declared.printing.HeaderLine.{HeaderLine}
 

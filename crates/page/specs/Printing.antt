@@ -21,9 +21,10 @@ use Rattle.carriers.specs.Loading.{lossCount, sizesOf}
 use Rattle.questions.specs.declared.answers.Given.{Given}
 use Rattle.questions.specs.declared.answers.Given.the-variants.{Done, Refused}
 use Rattle.questions.specs.declared.answers.Agreed.{Agreed}
-use Rattle.lines.specs.Digits.{Text}
+use Rattle.text.specs.Digits.{Text}
 use Rattle.lines.specs.Lines.{headerLine, placeLine, overLine}
-use Rattle.lines.specs.Printing.{lineRoom, written}
+use Rattle.lines.specs.Printing.{lineRoom}
+use Rattle.text.specs.Putting.{written}
 use Rattle.lines.specs.declared.printing.PlaceLine.{PlaceLine}
 use Rattle.lines.specs.declared.printing.Printed.{Printed}
 use Rattle.lines.specs.declared.printing.Printed.the-variants.{Length, NoRoom}

@@ -6,8 +6,8 @@ use Rattle.farm.specs.Refusals.{numberOf}
 use Rattle.farm.specs.declared.refusals.Refusal.{Refusal}
 use Rattle.record.specs.Document.{readingOf}
 use Rattle.record.specs.Record.{bad}
-use Rattle.lines.specs.Digits.{Text}
-use Rattle.lines.specs.Words.{ascii}
+use Rattle.text.specs.Digits.{Text}
+use Rattle.text.specs.Words.{ascii}
 use Rattle.lines.specs.Lines.{refusedLine}
 use Rattle.page.specs.Page.{pageOf}
 

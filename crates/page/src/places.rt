@@ -17,7 +17,8 @@ ghost use Prim.Native.Nat.{suc, _+_, _≤_};
 ghost use lib.ListN.{length};
 ghost use Rattle.farm.specs.Sets.{bit};
 ghost use Rattle.viewing.specs.Counts.{farmFor};
-ghost use Rattle.lines.specs.Printing.{PutsWithin, lineRoom};
+ghost use Rattle.text.specs.Putting.{PutsWithin};
+ghost use Rattle.lines.specs.Printing.{lineRoom};
 ghost use Rattle.page.specs.Page.{linesAt, linesOf};
 ghost use Rattle.page.specs.Printing.{Ready, countFrom, endIn, lineFrom, lineIn, timeRoom, timesRoom};
 

@@ -16,7 +16,7 @@ use viewing::sizes::Sizes;
 ghost use Prim.Native.Nat.{_≤_};
 ghost use lib.ListN.{length};
 ghost use Rattle.record.specs.Document.{readingOf};
-ghost use Rattle.lines.specs.Printing.{PutsWithin};
+ghost use Rattle.text.specs.Putting.{PutsWithin};
 ghost use Rattle.page.specs.Page.{pageOf};
 ghost use Rattle.page.specs.Printing.{Holds, PrintsPage, pageHeld, pageRoom};
 

@@ -2,7 +2,7 @@
 -- Assumes nothing.
 use mathlib.Core.Path.{refl}
 use Rattle.lines.specs.Lines.{standing}
-use Rattle.lines.specs.Words.{ascii}
+use Rattle.text.specs.Words.{ascii}
 use Rattle.lines.proofs.printing.letter.Statement.{statement}
 use Rattle.lines.proofs.printing.letter.Tie as tie
 

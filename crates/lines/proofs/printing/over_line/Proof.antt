@@ -10,9 +10,10 @@ use lib.Dec.{leb}
 use lib.ListN.{length}
 use Rattle.lines.specs.Lines.{overLine}
 use Rattle.lines.specs.Printing.{lineRoom}
-use Rattle.lines.specs.Words.{ascii}
+use Rattle.text.specs.Words.{ascii}
 use Rattle.lines.proofs.LineLaws.{over-text}
-use Rattle.lines.proofs.PrintLaws.{prints, prints-nothing, then-told}
+use Rattle.lines.proofs.PrintLaws.{prints, prints-nothing}
+use Rattle.text.proofs.PutLaws.{then-told}
 use Rattle.lines.proofs.printing.over_line.Statement.{statement}
 use Rattle.lines.proofs.printing.over_line.Tie as tie
 

@@ -13,9 +13,10 @@ use mir.Val.{SFits}
 use mir.ValLaws.{toZ-ofZ}
 use Rattle.lines.specs.Lines.{placeLine}
 use Rattle.lines.specs.Printing.{lineRoom}
-use Rattle.lines.specs.Words.{newline}
+use Rattle.text.specs.Words.{newline}
 use Rattle.lines.proofs.LineLaws.{place-text}
-use Rattle.lines.proofs.PrintLaws.{prints, prints-nothing, puts-byte, then-told, within-then}
+use Rattle.lines.proofs.PrintLaws.{prints, prints-nothing}
+use Rattle.text.proofs.PutLaws.{puts-byte, then-told, within-then}
 use Rattle.lines.proofs.printing.place_line.Statement.{statement}
 use Rattle.lines.proofs.printing.place_line.Tie as tie
 

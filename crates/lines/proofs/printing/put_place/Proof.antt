@@ -5,9 +5,9 @@ use Prim.Native.Nat.{_+_, _≤_}
 use native.Mathlib.Omega.{arith}
 use borrow.Author.Needs.{needs}
 use lib.ListN.{length, length-set}
-use Rattle.lines.specs.Words.{blank}
+use Rattle.text.specs.Words.{blank}
 use Rattle.lines.proofs.LineLaws.{place-begins}
-use Rattle.lines.proofs.PrintLaws.{puts-two, then-told, within-then}
+use Rattle.text.proofs.PutLaws.{puts-two, then-told, within-then}
 use Rattle.lines.proofs.printing.put_place.Statement.{statement}
 use Rattle.lines.proofs.printing.put_place.Tie as tie
 

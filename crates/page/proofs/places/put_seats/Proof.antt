@@ -8,8 +8,8 @@ use native.Mathlib.Omega.{arith}
 use lib.ListN.{length, getD}
 use Rattle.knowledge.specs.Farm.{seat}
 use Rattle.viewing.specs.Counts.{farmFor}
-use Rattle.lines.specs.Printing.{PutsWithin}
-use Rattle.lines.proofs.PrintLaws.{puts-nothing, within-then}
+use Rattle.text.specs.Putting.{PutsWithin}
+use Rattle.text.proofs.PutLaws.{puts-nothing, within-then}
 use Rattle.page.specs.Page.{linesAt}
 use Rattle.page.specs.Printing.{countFrom, placeOf}
 use Rattle.page.proofs.LineLaws.{Shared, shared-place, line-at}

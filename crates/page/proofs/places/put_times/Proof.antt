@@ -6,8 +6,8 @@ use native.Mathlib.Numerals.{add-one}
 use native.Mathlib.Omega.{arith}
 use lib.ListN.{length}
 use Rattle.viewing.specs.Counts.{farmFor}
-use Rattle.lines.specs.Printing.{PutsWithin}
-use Rattle.lines.proofs.PrintLaws.{puts-nothing, within-then}
+use Rattle.text.specs.Putting.{PutsWithin}
+use Rattle.text.proofs.PutLaws.{puts-nothing, within-then}
 use Rattle.page.specs.Page.{linesOf}
 use Rattle.page.specs.Printing.{countFrom}
 use Rattle.page.proofs.places.put_times.Statement.{statement}

@@ -6,8 +6,8 @@ use native.Mathlib.Omega.{arith}
 use borrow.Author.Needs.{needs}
 use lib.Seq.{length-take-le}
 use Rattle.lines.specs.Lines.{headerLine}
-use Rattle.lines.specs.Printing.{PutsWithin}
-use Rattle.lines.proofs.PrintLaws.{within-then}
+use Rattle.text.specs.Putting.{PutsWithin}
+use Rattle.text.proofs.PutLaws.{within-then}
 use Rattle.page.specs.Page.{numbersOf}
 use Rattle.page.proofs.LineLaws.{printed-put}
 use Rattle.page.proofs.whole.put_page.Statement.{statement}

@@ -1,0 +1,5 @@
+pub mod DigitLaws
+pub mod SignLaws
+pub mod WordLaws
+pub mod PutLaws
+pub mod CompleteLaws
