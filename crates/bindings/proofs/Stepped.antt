@@ -8,8 +8,8 @@ use denote.Builtin.{u8}
 use denote.Plain.{uint-lawful, uint-makes}
 use denote.Steps.{only}
 use denote.Struct.Laws as LL
-use Rattle.live.proofs.table.Table as T
-use Rattle.live.proofs.table.Table.Laws as T′
+use Rattle.live_table.proofs.table.Table as T
+use Rattle.live_table.proofs.table.Table.Laws as T′
 use Rattle.live.proofs.Live.{Stepping}
 use Rattle.bindings.proofs.coded.Coded as S
 use Rattle.bindings.proofs.coded.Coded.Laws as S′

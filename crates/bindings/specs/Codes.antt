@@ -21,7 +21,7 @@ use Rattle.questions.specs.declared.answers.Given.{Given}
 use Rattle.questions.specs.declared.answers.Given.the-variants as given
 use Rattle.live.specs.declared.answers.Done.{Done}
 use Rattle.live.specs.declared.answers.Done.the-variants as done
-use Rattle.live.specs.declared.table.Table.{Table}
+use Rattle.live_table.specs.declared.table.Table.{Table}
 use Rattle.live.specs.Answers.{doneOf}
 use Rattle.live.specs.Calls.{Call, answerTo, tableAfter}
 use Rattle.text.specs.Digits.{Text}

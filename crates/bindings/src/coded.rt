@@ -5,7 +5,7 @@ use farm::places::Seat;
 use live::steps::opened;
 use live::steps::with_edit;
 use live::steps::with_round;
-use live::table::Table;
+use live_table::table::Table;
 ghost use Rattle.live.specs.Calls.{opening, round, edit};
 ghost use Rattle.bindings.specs.Codes.{EndsWith};
 

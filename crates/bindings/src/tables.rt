@@ -3,7 +3,7 @@
 use crate::coded::coded_edit;
 use crate::coded::coded_opening;
 use crate::coded::coded_round;
-use live::table::Table;
+use live_table::table::Table;
 ghost use Rattle.live.specs.Calls.{opening, round, edit};
 ghost use Rattle.bindings.specs.Codes.{EndsWith};
 

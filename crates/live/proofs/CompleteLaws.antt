@@ -6,13 +6,9 @@ use Rattle.live.specs.declared.answers.Step.{Step}
 use Rattle.live.proofs.calls.open as open′
 use Rattle.live.proofs.calls.add_round as add-round
 use Rattle.live.proofs.calls.add_edit as add-edit
-use Rattle.live.proofs.sound.judge_table as judge-table
 use Rattle.live.proofs.steps.opened as opened
 use Rattle.live.proofs.steps.with_round as with-round
 use Rattle.live.proofs.steps.with_edit as with-edit
-
-pub judge-table-complete : Complete judge-table.ended (λ M. judge-table.clauses {M = M})
-judge-table-complete M 𝓤 H A mem run κs a g r s v w = by-facts M 𝓤 _ _ _ (λ p q. (cc, cc))
 
 -- ════ On the host's table ════
 

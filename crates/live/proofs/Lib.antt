@@ -1,5 +1,3 @@
-pub mod ListLaws
-pub mod UsedLaws
 pub mod GoodSteps
 pub mod RunLaws
 pub mod StepLaws

@@ -23,8 +23,8 @@ use Rattle.walks.proofs.Changed as changed
 use Rattle.walks.proofs.Changed.{Changer, Taker, lies}
 use Rattle.walks.proofs.Handed.{Handed}
 use Rattle.walks.proofs.Thin.{changing}
-use Rattle.live.proofs.table.Table as Table
-use Rattle.live.proofs.table.Table.Laws as Table′
+use Rattle.live_table.proofs.table.Table as Table
+use Rattle.live_table.proofs.table.Table.Laws as Table′
 
 -- what a step returns: an answer X and the table in a struct S (`Changed.antt`)
 abbrev pub Stepping : RattleType → RattleType → Type 2

@@ -13,13 +13,13 @@ use Rattle.record.proofs.Promises.{document-numbers-fit}
 use Rattle.record.proofs.ReadBack.{reading-back}
 use Rattle.record.proofs.TakenGood.{reading-taken}
 use Rattle.live.specs.declared.answers.Done.the-variants.{Refused}
-use Rattle.live.specs.declared.table.Table.{Table}
+use Rattle.live_table.specs.declared.table.Table.{Table}
 use Rattle.live.specs.Answers.{doneOf}
 use Rattle.live.specs.Calls.{added, keptOr, answerTo, tableAfter}
-use Rattle.live.specs.Used.{usedRecord, tableReading}
+use Rattle.live_table.specs.Used.{usedRecord, tableReading}
 use Rattle.live.specs.Promises.{Table-refused-exactly-when-not-good, Table-passes-exactly-when-it-reads-back, Refused-call-leaves-the-table, Calls-have-a-run, Run-keeps-the-record}
 use Rattle.live.proofs.RunLaws as runs
-use Rattle.live.proofs.UsedLaws.{reading-good, reads-bad}
+use Rattle.live_table.proofs.UsedLaws.{reading-good, reads-bad}
 
 -- ════ Refusal 19 ════
 

@@ -19,14 +19,14 @@ use Rattle.record.specs.Tables.{editsFrom}
 use Rattle.record.specs.Writing.{Verdict, accepted, faulty}
 use Rattle.record.proofs.GoodLaws.{record-facts}
 use Rattle.live.specs.declared.answers.Done.{Done}
-use Rattle.live.specs.declared.table.Table.{Table}
-use Rattle.live.specs.Used.{usedRecord}
+use Rattle.live_table.specs.declared.table.Table.{Table}
+use Rattle.live_table.specs.Used.{usedRecord}
 use Rattle.live.specs.Calls.{Call, opening, round, edit, openedRecord, withRound, withEdit, presentEdit, testsOf, openedTable, tableWithRound, tableWithEdit, added, keptOr, answerTo, tableAfter}
 use Rattle.live.specs.Answers.{doneOf, Ends}
 use Rattle.live.specs.Runs.{Run, stop, step, Told, nothing, told, recorded, recordedIf, recordOfAll}
 use Rattle.live.specs.Promises.{Calls-have-a-run, Run-keeps-the-record}
-use Rattle.live.proofs.ListLaws.{used-over, edits-from-append, cut-full}
-use Rattle.live.proofs.UsedLaws.{reading-good}
+use Rattle.live_table.proofs.ListLaws.{used-over, edits-from-append, cut-full}
+use Rattle.live_table.proofs.UsedLaws.{reading-good}
 use Rattle.live.proofs.GoodSteps.{AllPass, all-pass, opened-good, round-good, edit-good}
 
 -- ════ Used parts ════

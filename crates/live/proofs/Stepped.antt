@@ -10,8 +10,8 @@ use Rattle.live.proofs.answers.Done as D
 use Rattle.live.proofs.answers.Done.Laws as D′
 use Rattle.live.proofs.answers.Step as S
 use Rattle.live.proofs.answers.Step.Laws as S′
-use Rattle.live.proofs.table.Table as T
-use Rattle.live.proofs.table.Table.Laws as T′
+use Rattle.live_table.proofs.table.Table as T
+use Rattle.live_table.proofs.table.Table.Laws as T′
 use Rattle.live.proofs.Live.{Stepping}
 
 abbrev pub stepped : Stepping D.the-row S.the-row

@@ -5,7 +5,7 @@ use Rattle.record.specs.Writing.{Verdict, accepted, faulty}
 use Rattle.live.specs.declared.answers.Done.{Done}
 use Rattle.live.specs.declared.answers.Done.the-variants.{Accepted, Refused}
 use Rattle.live.specs.declared.answers.Step.{Step}
-use Rattle.live.specs.declared.table.Table.{Table}
+use Rattle.live_table.specs.declared.table.Table.{Table}
 use Rattle.live.specs.Calls.{Call, answerTo, tableAfter}
 
 unfoldable pub doneOf : Verdict → Done

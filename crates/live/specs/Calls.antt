@@ -19,8 +19,8 @@ use Rattle.record.specs.Good.{goodHeader, goodSets, goodEdit, goodRecord}
 use Rattle.record.specs.Record.{Record}
 use Rattle.record.specs.Tables.{over}
 use Rattle.record.specs.Writing.{Verdict, accepted, faulty, unless}
-use Rattle.live.specs.declared.table.Table.{Table}
-use Rattle.live.specs.Used.{usedRecord, tableOf}
+use Rattle.live_table.specs.declared.table.Table.{Table}
+use Rattle.live_table.specs.Used.{usedRecord, tableOf}
 
 -- A call that can change the table. An edit has no time of its own: it is placed at the present one.
 pub data Call : Type 0 where

@@ -1,5 +1,4 @@
 -- Document 01, "Live": the table, the calls, and any run of them.
-pub mod Used
 pub mod Calls
 pub mod Answers
 pub mod Runs

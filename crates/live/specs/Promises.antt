@@ -10,8 +10,8 @@ use Rattle.record.specs.Good.{goodRecord}
 use Rattle.record.specs.Record.{Record, good, bad, readingOf, bytesOf}
 use Rattle.live.specs.declared.answers.Done.{Done}
 use Rattle.live.specs.declared.answers.Done.the-variants.{Refused}
-use Rattle.live.specs.declared.table.Table.{Table}
-use Rattle.live.specs.Used.{usedRecord, tableReading}
+use Rattle.live_table.specs.declared.table.Table.{Table}
+use Rattle.live_table.specs.Used.{usedRecord, tableReading}
 use Rattle.live.specs.Calls.{Call}
 use Rattle.live.specs.Answers.{Ends}
 use Rattle.live.specs.Runs.{Run, nothing, told, recordOfAll}

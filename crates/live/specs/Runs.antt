@@ -3,7 +3,7 @@ use mathlib.Core.List.{List, [], _∷_}
 use Rattle.record.specs.Record.{Record}
 use Rattle.live.specs.declared.answers.Done.{Done}
 use Rattle.live.specs.declared.answers.Done.the-variants.{Accepted, Refused}
-use Rattle.live.specs.declared.table.Table.{Table}
+use Rattle.live_table.specs.declared.table.Table.{Table}
 use Rattle.live.specs.Answers.{Ends}
 use Rattle.live.specs.Calls.{Call, opening, round, edit, openedRecord, withRound, withEdit, presentEdit}
 

@@ -1,6 +1,5 @@
 // What a call is answered before anything is added: its tests in document 01's order, on the parts of a table.
 use crate::answers::Done;
-use crate::sound::judge_table;
 use farm::limits::LARGEST_CELL;
 use farm::limits::MOST_EDITS;
 use farm::limits::MOST_ROUNDS;
@@ -8,6 +7,7 @@ use farm::places::Seat;
 use farm::places::Time;
 use farm::refusals::Refusal;
 use judging::lists::judge;
+use live_table::sound::judge_table;
 use record::answers::Judged;
 use record::edits::Before;
 use record::edits::Edit;
@@ -23,7 +23,7 @@ ghost use Rattle.record.specs.Tables.{editsFrom};
 ghost use Rattle.record.specs.declared.edits.Before.the-variants.{Nothing};
 ghost use Rattle.live.specs.Calls.{round, edit, Held, answerTo};
 ghost use Rattle.live.specs.Answers.{doneOf};
-ghost use Rattle.live.specs.Used.{tableOf};
+ghost use Rattle.live_table.specs.Used.{tableOf};
 
 // A round's sets, judged as those of a record of one round and no edits.
 fn judge_round(seats: u8, bound: u8, sets: &[u16]) -> Judged

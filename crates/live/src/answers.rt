@@ -1,6 +1,6 @@
 // What a call on the table answers, and what a step hands back.
-use crate::table::Table;
 use farm::refusals::Refusal;
+use live_table::table::Table;
 
 pub enum Done {
     Accepted,

@@ -4,8 +4,8 @@ use crate::answers::Done;
 use crate::steps::opened;
 use crate::steps::with_edit;
 use crate::steps::with_round;
-use crate::table::Table;
 use farm::places::Seat;
+use live_table::table::Table;
 ghost use Rattle.live.specs.Calls.{opening, round, edit};
 ghost use Rattle.live.specs.Answers.{Ends};
 

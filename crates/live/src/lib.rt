@@ -3,6 +3,4 @@
 mod answering; // answering.rt: the tests of a round and of an edit, in their order
 pub mod answers; // answers.rt: what a call answers
 pub mod calls; // calls.rt: the calls on a `&mut` to the table
-pub mod sound; // sound.rt: whether the used part of a table is a good record
 pub mod steps; // steps.rt: each call as a step by value
-pub mod table; // table.rt: the table itself

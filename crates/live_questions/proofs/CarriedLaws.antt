@@ -11,9 +11,9 @@ use Rattle.record.specs.Answers.{checkedOf}
 use Rattle.record.specs.Good.{goodRecord}
 use Rattle.record.specs.declared.answers.Checked.the-variants.{Good, Refused}
 use Rattle.carriers.specs.Carried.{Holds, Carried}
-use Rattle.live.specs.declared.table.Table.{Table}
-use Rattle.live.specs.Used.{usedRecord, tableReading}
-use Rattle.live.proofs.UsedLaws.{reading-good, reads-bad}
+use Rattle.live_table.specs.declared.table.Table.{Table}
+use Rattle.live_table.specs.Used.{usedRecord, tableReading}
+use Rattle.live_table.proofs.UsedLaws.{reading-good, reads-bad}
 use Rattle.live_questions.proofs.WriteLaws.{columns}
 
 module _ (table : Table) where

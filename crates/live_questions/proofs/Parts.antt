@@ -32,9 +32,9 @@ use borrow.Struct.Items.{cut-array}
 use borrow.Struct.Share.{Parts, part-cut}
 use borrow.Struct.Way.{Cut}
 use borrow.Table.Copies.{halves, cStruct}
-use Rattle.live.specs.declared.table.Table.{Table}
-use Rattle.live.proofs.table.Table as Table
-use Rattle.live.proofs.table.Table.Laws as Table′
+use Rattle.live_table.specs.declared.table.Table.{Table}
+use Rattle.live_table.proofs.table.Table as Table
+use Rattle.live_table.proofs.table.Table.Laws as Table′
 use Rattle.walks.proofs.Changed.{lies}
 use Rattle.walks.proofs.Handed.{Handed}
 use Rattle.walks.proofs.Answered.{Answer}

@@ -19,10 +19,10 @@ use Rattle.record.proofs.ColumnLaws.{Columns, columns-from-edits}
 use Rattle.record.proofs.GoodLaws.{header-facts, record-facts}
 use Rattle.record.proofs.WritingLaws.{good-lists-accepted}
 use Rattle.questions.specs.Accepted.{Accepted as Accepts}
-use Rattle.live.specs.declared.table.Table.{Table}
-use Rattle.live.specs.Used.{usedRecord, tableReading}
-use Rattle.live.proofs.UsedLaws.{reading-good, reads-bad}
-use Rattle.live.proofs.ListLaws.{cut-full}
+use Rattle.live_table.specs.declared.table.Table.{Table}
+use Rattle.live_table.specs.Used.{usedRecord, tableReading}
+use Rattle.live_table.proofs.UsedLaws.{reading-good, reads-bad}
+use Rattle.live_table.proofs.ListLaws.{cut-full}
 
 module _ (table : Table) where
   -- What the questions ask of an accepted record's numbers.

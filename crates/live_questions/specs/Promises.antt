@@ -7,8 +7,8 @@ use Rattle.record.specs.Record.{Record, good}
 use Rattle.record.specs.Writing.{answered, bufferWith}
 use Rattle.questions.specs.Question.{Asked, onRecord}
 use Rattle.live.specs.declared.answers.Done.{Done}
-use Rattle.live.specs.declared.table.Table.{Table}
-use Rattle.live.specs.Used.{usedRecord, tableReading}
+use Rattle.live_table.specs.declared.table.Table.{Table}
+use Rattle.live_table.specs.Used.{usedRecord, tableReading}
 use Rattle.live.specs.Calls.{Call}
 use Rattle.live.specs.Runs.{Run, nothing, told, recordOfAll}
 

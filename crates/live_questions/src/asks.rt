@@ -9,7 +9,7 @@ use crate::lent::view_from;
 use crate::lent::write_from;
 use farm::places::Seat;
 use farm::places::Time;
-use live::table::Table;
+use live_table::table::Table;
 use questions::answers::Agreed;
 use questions::answers::Given;
 use questions::answers::Seen;
@@ -22,7 +22,7 @@ ghost use Rattle.record.specs.Answers.{writtenIn};
 ghost use Rattle.record.specs.Writing.{answered, bufferWith};
 ghost use Rattle.questions.specs.Question.{viewAsked, coreAsked, marksAsked, loserAsked};
 ghost use Rattle.questions.specs.Answers.{Fills, standingAnswer, seenAsked, agreedAsked};
-ghost use Rattle.live.specs.Used.{tableReading};
+ghost use Rattle.live_table.specs.Used.{tableReading};
 
 // What a seat has seen at a time: its view, and the known set.
 pub fn seen(table: &Table, seat: Seat, time: Time) -> Seen

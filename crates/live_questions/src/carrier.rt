@@ -1,10 +1,10 @@
 // The live table as a carrier of a record: 19, or the header of the record in its used part.
 use farm::refusals::Refusal;
-use live::sound::judge_table;
+use live_table::sound::judge_table;
 use record::answers::Checked;
 use record::header::Header;
 ghost use Rattle.carriers.specs.Carried.{Carried};
-ghost use Rattle.live.specs.Used.{tableReading, tableOf};
+ghost use Rattle.live_table.specs.Used.{tableReading, tableOf};
 
 // What a table reads as: 19, or the header of the record in its used part.
 pub fn check_table<'a>(

@@ -10,7 +10,7 @@ use carriers::carried::view_in;
 use farm::places::Seat;
 use farm::places::Time;
 use farm::refusals::Refusal;
-use live::sound::judge_table;
+use live_table::sound::judge_table;
 use questions::answers::Agreed;
 use questions::answers::Given;
 use questions::answers::Seen;
@@ -25,7 +25,7 @@ ghost use Rattle.record.specs.Writing.{listsOf, answered, bufferWith, writtenTo
 ghost use Rattle.record.specs.Answers.{writtenIn};
 ghost use Rattle.questions.specs.Question.{viewAsked, coreAsked, marksAsked, loserAsked};
 ghost use Rattle.questions.specs.Answers.{Fills, standingAnswer, seenAsked, agreedAsked};
-ghost use Rattle.live.specs.Used.{tableReading, tableOf, ArraysLong};
+ghost use Rattle.live_table.specs.Used.{tableReading, tableOf, ArraysLong};
 
 // What a seat has seen at a time: its view, and the known set.
 pub fn seen_from<'a>(

@@ -19,7 +19,7 @@ use crate::playing::play;
 use crate::scribble::untouched;
 use crate::widths::within;
 use libc::STDIN_FILENO;
-use live::table::Table;
+use live_table::table::Table;
 
 // The most bytes of a line that are looked at.
 const LINE_BYTES: usize = 255;

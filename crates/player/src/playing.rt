@@ -21,7 +21,7 @@ use live::answers::Step;
 use live::steps::opened;
 use live::steps::with_edit;
 use live::steps::with_round;
-use live::table::Table;
+use live_table::table::Table;
 
 // Says what a step answered, and hands on its table.
 fn taken(step: Step) -> Table {

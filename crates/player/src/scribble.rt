@@ -5,7 +5,7 @@ use crate::widths::to_u8;
 use crate::widths::to_u16;
 use farm::limits::TABLE_EDITS;
 use farm::limits::TABLE_LOSS_SETS;
-use live::table::Table;
+use live_table::table::Table;
 
 // A table never opened: every byte is A5.
 pub fn untouched() -> Table {

@@ -12,7 +12,7 @@ use Rattle.farm.specs.declared.refusals.Refusal.the-variants.{OutOfRange, BadOr
 use Rattle.record.specs.Edits.{follows}
 use Rattle.record.specs.Tables.{editOf}
 use Rattle.live.specs.Calls.{edit}
-use Rattle.live.specs.Used.{tableOf, usedRecord}
+use Rattle.live_table.specs.Used.{tableOf, usedRecord}
 use Rattle.live.proofs.StepLaws.{edit-bad, edit-no-seat, edit-no-cell, edit-full, edit-early, edit-accepted, answers-refused, answers-accepted}
 use Rattle.live.proofs.answering.answer_edit.Statement.{statement}
 use Rattle.live.proofs.answering.answer_edit.Tie as tie

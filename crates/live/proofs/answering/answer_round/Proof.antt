@@ -8,7 +8,7 @@ use borrow.Author.Tests.{not-true, not-false}
 use Rattle.farm.specs.declared.refusals.Refusal.the-variants.{RoundsFull, BadTable}
 use Rattle.record.proofs.AcceptedLaws.{answer-accepted, answer-refused}
 use Rattle.live.specs.Calls.{round}
-use Rattle.live.specs.Used.{tableOf}
+use Rattle.live_table.specs.Used.{tableOf}
 use Rattle.live.proofs.StepLaws.{round-bad, round-full, round-judged, answers-refused, answers-accepted}
 use Rattle.live.proofs.answering.answer_round.Statement.{statement}
 use Rattle.live.proofs.answering.answer_round.Tie as tie

@@ -6,7 +6,7 @@ use native.Mathlib.Nat.{add-zero}
 use native.Mathlib.Omega.{arith}
 use lib.ListN.{length, drop, length-set}
 use Rattle.record.specs.Tables.{over}
-use Rattle.live.proofs.ListLaws.{over-turn, over-done}
+use Rattle.live_table.proofs.ListLaws.{over-turn, over-done}
 use Rattle.live.proofs.steps.put_sets.Statement.{statement}
 use Rattle.live.proofs.steps.put_sets.Tie as tie
 

@@ -8,7 +8,7 @@ use denote.Ref.{now}
 use borrow.Author.Tests.{not-true, not-false}
 use Rattle.farm.specs.Limits.{limits}
 use Rattle.record.specs.Good.{goodRecord}
-use Rattle.live.specs.Used.{tableOf, usedRecord}
+use Rattle.live_table.specs.Used.{tableOf, usedRecord}
 use Rattle.live_questions.proofs.WriteLaws.{accepted-sizes, few-edits, bad-write, good-write}
 use Rattle.live_questions.proofs.lent.write_from.Statement.{statement}
 use Rattle.live_questions.proofs.lent.write_from.Tie as tie

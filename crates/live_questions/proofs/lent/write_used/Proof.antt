@@ -5,7 +5,7 @@ use mathlib.Core.Path.{sym}
 use Prim.Native.Nat.{_*_, _≤_}
 use native.Mathlib.Omega.{arith}
 use lib.Seq.{length-take-le}
-use Rattle.live.proofs.StepLaws.{sets-fit}
+use Rattle.live_table.proofs.SoundLaws.{sets-fit}
 use Rattle.live_questions.proofs.lent.write_used.Statement.{statement}
 use Rattle.live_questions.proofs.lent.write_used.Tie as tie
 

@@ -11,7 +11,7 @@ use Rattle.farm.specs.declared.refusals.Refusal.the-variants.{BadTable}
 use Rattle.record.specs.Good.{goodRecord}
 use Rattle.record.specs.Record.{Record, Reading, good, bad}
 use Rattle.record.specs.Tables.{editsFrom}
-use Rattle.live.specs.declared.table.Table.{Table}
+use Rattle.live_table.specs.declared.table.Table.{Table}
 
 -- A table from its parts.
 abbrev pub tableOf : (losses : List Seats) (editors times cells : List ℕ) (changes : List ℤ) (seats bound rounds edits : ℕ) → Table

@@ -6,8 +6,8 @@ use Rattle.farm.specs.Limits.{limits}
 use Rattle.farm.specs.declared.refusals.Refusal.the-variants.{BadTable}
 use Rattle.record.specs.Good.{goodRecord}
 use Rattle.record.specs.Record.{good, bad}
-use Rattle.live.specs.declared.table.Table.{Table}
-use Rattle.live.specs.Used.{usedRecord, tableReading}
+use Rattle.live_table.specs.declared.table.Table.{Table}
+use Rattle.live_table.specs.Used.{usedRecord, tableReading}
 
 pub reading-good : (table : Table) → goodRecord limits (usedRecord table) ≡ true → tableReading table ≡ good (usedRecord table)
 unfolding tableReading

@@ -1,4 +1,4 @@
--- `live::sound::judge_used` meets its contract: the lists that the used part is cut into are judged.
+-- `live_table::sound::judge_used` meets its contract: the lists that the used part is cut into are judged.
 -- Assumes nothing.
 use borrow.Author.Needs.{needs}
 use mathlib.Core.Path.{sym, _∙_}
@@ -7,9 +7,9 @@ use native.Mathlib.Omega.{arith}
 use lib.Seq.{length-take-le}
 use denote.Ref.{now}
 use Rattle.record.proofs.AcceptedLaws.{answer-accepted, answer-refused}
-use Rattle.live.proofs.StepLaws.{sets-fit, accepted-table, refused-table}
-use Rattle.live.proofs.sound.judge_used.Statement.{statement}
-use Rattle.live.proofs.sound.judge_used.Tie as tie
+use Rattle.live_table.proofs.SoundLaws.{sets-fit, accepted-table, refused-table}
+use Rattle.live_table.proofs.sound.judge_used.Statement.{statement}
+use Rattle.live_table.proofs.sound.judge_used.Tie as tie
 
 mul-sets : tie.Need-mul-sets
 mul-sets c =

@@ -1,9 +1,9 @@
--- `live::sound::judge_table` meets its contract: sizes past the arrays are no good record's, and else the lists are judged.
+-- `live_table::sound::judge_table` meets its contract: sizes past the arrays are no good record's, and else the lists are judged.
 -- Assumes nothing.
 use borrow.Author.Needs.{needs}
-use Rattle.live.proofs.StepLaws.{too-many-seats, too-many-rounds, too-many-edits}
-use Rattle.live.proofs.sound.judge_table.Statement.{statement}
-use Rattle.live.proofs.sound.judge_table.Tie as tie
+use Rattle.live_table.proofs.SoundLaws.{too-many-seats, too-many-rounds, too-many-edits}
+use Rattle.live_table.proofs.sound.judge_table.Statement.{statement}
+use Rattle.live_table.proofs.sound.judge_table.Tie as tie
 
 returns : tie.Need-returns
 returns c = too-many-seats _ (c .if1 .taken)

@@ -6,7 +6,7 @@ ghost use mathlib.Core.Path.{_≡_};
 ghost use Prim.Native.Nat.{_≤_};
 ghost use Rattle.farm.specs.Limits.{limits};
 ghost use Rattle.record.specs.Good.{goodRecord};
-ghost use Rattle.live.specs.Used.{usedRecord, tableOf, ArraysLong};
+ghost use Rattle.live_table.specs.Used.{usedRecord, tableOf, ArraysLong};
 
 // Whether sizes that fit the arrays are those of a good record in their used part.
 fn judge_used<'a>(

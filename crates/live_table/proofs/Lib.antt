@@ -1,0 +1,4 @@
+pub mod ListLaws
+pub mod UsedLaws
+pub mod SoundLaws
+pub mod CompleteLaws
