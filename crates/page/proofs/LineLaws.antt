@@ -19,12 +19,13 @@ use Rattle.viewing.specs.Counts.{room, counts, farmFor}
 use Rattle.construction.specs.KnownSets.{knownSets}
 use Rattle.viewing.specs.declared.sizes.Sizes.{Sizes}
 use Rattle.viewing.proofs.ViewSteps.{counts-at}
-use Rattle.questions.specs.Answers.{laid, noTimes, agreedFrom}
+use Rattle.telling.specs.Laid.{laid}
+use Rattle.questions.specs.Answers.{noTimes, agreedFrom}
 use Rattle.questions.specs.Question.{byValue, isPlace, ofOutcome, settledIn}
 use Rattle.questions.specs.declared.answers.Given.{Given}
 use Rattle.questions.specs.declared.answers.Agreed.{Agreed}
 use Rattle.questions.proofs.AskLaws.{settled-valued}
-use Rattle.questions.proofs.TimeLaws.{length-times}
+use Rattle.telling.proofs.TimeLaws.{length-times}
 use Rattle.text.specs.Digits.{Text}
 use Rattle.lines.specs.Lines.{placeLine}
 use Rattle.text.specs.Putting.{PutsWithin}

@@ -15,7 +15,7 @@ use Rattle.viewing.specs.declared.sizes.Sizes.{Sizes}
 use Rattle.record.specs.declared.header.Header.{Header}
 use Rattle.questions.specs.Accepted.{Accepted}
 use Rattle.questions.specs.Answers.{agreedFrom}
-use Rattle.questions.specs.Marks.{countIn}
+use Rattle.telling.specs.Marks.{countIn}
 use Rattle.questions.specs.Question.{byValue, settledIn}
 use Rattle.carriers.specs.Loading.{lossCount, sizesOf}
 use Rattle.questions.specs.declared.answers.Given.{Given}

@@ -11,8 +11,9 @@ use Rattle.construction.specs.declared.settled.Settled as Settle
 use Rattle.questions.specs.Accepted.{Found, agreedWith}
 use Rattle.questions.specs.declared.answers.Given.the-variants.{Done}
 use Rattle.questions.specs.declared.answers.Agreed.{Agreed}
-use Rattle.questions.specs.Answers.{laid, noneAgreed, noTimes, agreedFrom}
-use Rattle.questions.specs.Marks.{countIn}
+use Rattle.telling.specs.Laid.{laid}
+use Rattle.questions.specs.Answers.{noneAgreed, noTimes, agreedFrom}
+use Rattle.telling.specs.Marks.{countIn}
 use Rattle.questions.specs.Question.{Asked, refused}
 
 module _ (n : ℕ) (seats times : List ℕ) (asked : Asked Settled) where

@@ -21,7 +21,8 @@ use Rattle.knowledge.proofs.ViewLaws.{le-of-below}
 use Rattle.knowledge.proofs.ViewTheory.{view-past}
 use Rattle.questions.specs.declared.answers.Given.the-variants.{Done}
 use Rattle.questions.specs.declared.answers.Seen.{Seen}
-use Rattle.questions.specs.Answers.{laid, noTimes, seenAnswer}
+use Rattle.telling.specs.Laid.{laid}
+use Rattle.questions.specs.Answers.{noTimes, seenAnswer}
 use Rattle.questions.specs.Question.{found, refused, Lent, byValue, buffer, fits, isPlace, provided, ofOutcome, viewIn, knownIn, settledIn, loserIn}
 
 -- ════ 8 ════

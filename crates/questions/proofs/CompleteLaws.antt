@@ -2,20 +2,15 @@
 -- Assumes nothing.
 use mathlib.Core.Path.{refl, sym, _∙_}
 use Rattle.farm.proofs.Complete.{Complete, by-facts}
-use Rattle.questions.proofs.times.put_times as put-times
 use Rattle.questions.proofs.views.is_place as is-place
 use Rattle.questions.proofs.views.none_seen as none-seen
 use Rattle.questions.proofs.views.ask_view_into as ask-view-into
 use Rattle.questions.proofs.views.ask_seen as ask-seen
 use Rattle.questions.proofs.views.ask_standing as ask-standing
 use Rattle.questions.proofs.cores.ask_core_into as ask-core-into
-use Rattle.questions.proofs.marks.count_marks as count-marks
 use Rattle.questions.proofs.marks.ask_marks as ask-marks
 use Rattle.questions.proofs.agreed.none_agreed as none-agreed
 use Rattle.questions.proofs.agreed.ask_agreed as ask-agreed
-
-pub put-times-complete : Complete put-times.ended (λ M. put-times.clauses {M = M})
-put-times-complete M 𝓤 H A mem run κs a g r s v w = by-facts M 𝓤 _ _ _ (λ p q. (refl, cc))
 
 pub is-place-complete : Complete is-place.ended (λ M. is-place.clauses {M = M})
 is-place-complete M 𝓤 H A mem run κs a g r s v w = by-facts M 𝓤 _ _ _ (λ p q. (p ∙ sym q, refl))
@@ -34,9 +29,6 @@ ask-standing-complete M 𝓤 H A mem run κs a g r s v w = by-facts M 𝓤 _ _ _
 
 pub ask-core-into-complete : Complete ask-core-into.ended (λ M. ask-core-into.clauses {M = M})
 ask-core-into-complete M 𝓤 H A mem run κs a g r s v w = by-facts M 𝓤 _ _ _ (λ p q. (p .answered ∙ sym (q .answered), cc))
-
-pub count-marks-complete : Complete count-marks.ended (λ M. count-marks.clauses {M = M})
-count-marks-complete M 𝓤 H A mem run κs a g r s v w = by-facts M 𝓤 _ _ _ (λ p q. (p ∙ sym q, refl))
 
 pub ask-marks-complete : Complete ask-marks.ended (λ M. ask-marks.clauses {M = M})
 ask-marks-complete M 𝓤 H A mem run κs a g r s v w = by-facts M 𝓤 _ _ _ (λ p q. (p .answered ∙ sym (q .answered), cc))

@@ -30,8 +30,9 @@ use Rattle.construction.specs.declared.settled.Ruling.the-variants.{Answered, R
 use Rattle.viewing.proofs.CountLaws.{getD-filled, below-out, getD-past}
 use Rattle.viewing.proofs.ViewSteps.{held-counts}
 use Rattle.questions.specs.Question.{Asked, found, refused, Lent, looking, ofOutcome, settledIn}
-use Rattle.questions.specs.Accepted.{InTime, Found, Settles, coreIn}
-use Rattle.questions.proofs.TimeLaws.{counts-bound, length-counts}
+use Rattle.telling.specs.Laid.{InTime}
+use Rattle.questions.specs.Accepted.{Found, Settles, coreIn}
+use Rattle.telling.proofs.TimeLaws.{counts-bound, length-counts}
 
 -- ════ What a core can hold ════
 

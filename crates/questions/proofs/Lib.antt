@@ -1,5 +1,4 @@
 pub mod BufferLaws
-pub mod TimeLaws
 pub mod AskLaws
 pub mod CompleteLaws
 pub mod CoreLaws

@@ -1,9 +1,9 @@
 -- Questions on a record that is accepted already: n, t and R with the loss sets, and the edits' seats and times as two lists.
 use mathlib.Core.Path.{_≡_}
 use mathlib.Core.List.{List}
-use Prim.Native.Nat.{ℕ, suc, _≤_, _<_}
+use Prim.Native.Nat.{ℕ, _≤_, _<_}
 use lib.IntN.{ℤ}
-use lib.ListN.{length, getD}
+use lib.ListN.{length}
 use Rattle.farm.specs.Limits.{limits}
 use Rattle.farm.specs.declared.places.Seat.{Seat}
 use Rattle.farm.specs.declared.places.Time.{Time}
@@ -19,19 +19,16 @@ use Rattle.construction.specs.declared.settled.Settled.{Settled}
 use Rattle.viewing.specs.declared.sizes.Sizes.{Sizes}
 use Rattle.questions.specs.declared.answers.Agreed.{Agreed}
 use Rattle.questions.specs.declared.answers.Given.the-variants.{Done}
-use Rattle.questions.specs.Answers.{laid, noTimes}
+use Rattle.telling.specs.Laid.{InTime, laid}
+use Rattle.questions.specs.Answers.{noTimes}
 use Rattle.questions.specs.Question.{Asked, found, refused, Lent, looking, settledIn}
-use Rattle.questions.specs.Marks.{marksIn, countIn}
+use Rattle.telling.specs.Marks.{marksIn, countIn}
 
 -- What the numbers of every accepted record meet.
 pub record Accepted (sizes : Sizes) : Type 0 where
   pub seats : sizes .seats ≤ limits .mostSeats
   pub bound : sizes .bound < sizes .seats
   pub rounds : sizes .rounds ≤ limits .mostRounds
-
--- No count is above that of the last time, so each fits a signed number.
-abbrev pub InTime : List ℕ → Type 0
-InTime counts = (q : ℕ) → getD counts q 0 ≤ suc (limits .mostRounds)
 
 -- ════ What is asked ════
 

@@ -1,10 +1,10 @@
 -- What the code answers, for each outcome of a question: the meaning of each case of its structs and enums.
 use mathlib.Core.Path.{_≡_}
 use mathlib.Core.Bool.{Bool, true, false}
-use mathlib.Core.List.{List, _++_}
+use mathlib.Core.List.{List}
 use Prim.Native.Nat.{ℕ}
 use lib.IntN.{ℤ, pos, negsuc}
-use lib.ListN.{length, drop, replicate}
+use lib.ListN.{length, replicate}
 use Rattle.farm.specs.Limits.{limits}
 use Rattle.farm.specs.Sets.{Seats}
 use Rattle.farm.specs.declared.places.Seat.{Seat}
@@ -12,6 +12,7 @@ use Rattle.farm.specs.declared.places.Time.{Time}
 use Rattle.farm.specs.declared.refusals.Refusal.{Refusal}
 use Rattle.knowledge.specs.Settled as rules
 use Rattle.knowledge.specs.Views.{latestTimes}
+use Rattle.telling.specs.Laid.{laid}
 use Rattle.questions.specs.declared.answers.Summary.{Summary}
 use Rattle.questions.specs.declared.answers.Standing.{Standing}
 use Rattle.questions.specs.declared.answers.Standing.the-variants as standing
@@ -19,7 +20,7 @@ use Rattle.questions.specs.declared.answers.Given.{Given}
 use Rattle.questions.specs.declared.answers.Given.the-variants as given
 use Rattle.questions.specs.declared.answers.Seen.{Seen}
 use Rattle.questions.specs.declared.answers.Agreed.{Agreed}
-use Rattle.questions.specs.Marks.{countIn}
+use Rattle.telling.specs.Marks.{countIn}
 use Rattle.record.specs.Record.{Reading}
 use Rattle.questions.specs.Question.{Asked, found, refused, Lent, byValue, buffer, viewAsked, knownAsked, settledAsked, coreAsked, countAsked}
 
@@ -39,10 +40,6 @@ standingAnswer (refused refusal) = standing.Refused refusal
 abbrev pub givenAnswer : {A : Type 0} → Asked A → Given
 givenAnswer (found a) = given.Done
 givenAnswer (refused refusal) = given.Refused refusal
-
--- The new entries first, and the old ones past them stay.
-abbrev pub laid : {A : Type 0} → (new old : List A) → List A
-laid new old = new ++ drop (length new) old
 
 -- What is left in the buffer. A refusal changes nothing.
 abbrev pub into : {A : Type 0} → Asked (List A) → List A → List A

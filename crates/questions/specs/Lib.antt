@@ -1,5 +1,4 @@
 -- What a question about a record means.
 pub mod Question
-pub mod Marks
 pub mod Accepted
 pub mod Answers

@@ -3,14 +3,14 @@
 use crate::answers::Agreed;
 use crate::answers::Given;
 use crate::answers::Summary;
-use crate::marks::count_marks;
 use crate::settling::settle_at;
-use crate::times::put_times;
 use construction::settled::Ruling;
 use construction::settled::Settled;
 use farm::places::Seat;
 use farm::places::Time;
 use farm::refusals::Refusal;
+use telling::marks::count_marks;
+use telling::times::put_times;
 use viewing::sizes::Sizes;
 ghost use mathlib.Core.Path.{_≡_};
 ghost use Prim.Native.Nat.{_≤_};
@@ -18,7 +18,8 @@ ghost use lib.ListN.{length};
 ghost use Rattle.farm.specs.Limits.{limits};
 ghost use Rattle.viewing.specs.Counts.{farmFor};
 ghost use Rattle.questions.specs.Question.{byValue, settledIn};
-ghost use Rattle.questions.specs.Accepted.{Accepted, InTime, agreedWith};
+ghost use Rattle.questions.specs.Accepted.{Accepted, agreedWith};
+ghost use Rattle.telling.specs.Laid.{InTime};
 ghost use Rattle.questions.specs.Answers.{agreedFrom, noneAgreed};
 
 // A place that is refused.

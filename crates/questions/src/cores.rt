@@ -1,10 +1,10 @@
 // Settled answers and cores of an accepted record: 8, then 7, then 9.
 use crate::answers::Given;
 use crate::settling::settle_at;
-use crate::times::put_times;
 use construction::settled::Ruling;
 use farm::places::Seat;
 use farm::places::Time;
+use telling::times::put_times;
 use viewing::sizes::Sizes;
 ghost use Rattle.viewing.specs.Counts.{farmFor};
 ghost use Rattle.questions.specs.Accepted.{Accepted, coreIn};

@@ -6,5 +6,4 @@ pub mod answers; // answers.rt: what a question answers
 pub mod cores; // cores.rt: the core
 pub mod marks; // marks.rt: which edits are in a core
 mod settling; // settling.rt: what is settled at a place, with the refusals before it
-mod times; // times.rt: views as they are given, the latest time of each seat
 pub mod views; // views.rt: what a seat has seen, and how it stands

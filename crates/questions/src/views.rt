@@ -2,12 +2,12 @@
 use crate::answers::Given;
 use crate::answers::Seen;
 use crate::answers::Standing;
-use crate::times::put_times;
 use construction::known::known_in;
 use construction::losers::is_loser;
 use farm::places::Seat;
 use farm::places::Time;
 use farm::refusals::Refusal;
+use telling::times::put_times;
 use viewing::sizes::Sizes;
 use viewing::views::view_of;
 ghost use mathlib.Core.Path.{_≡_};

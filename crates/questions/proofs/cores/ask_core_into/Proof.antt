@@ -3,7 +3,7 @@
 use Rattle.questions.proofs.AskLaws.{settled-fits}
 use Rattle.questions.proofs.BufferLaws.{refused-fills, found-fills}
 use Rattle.questions.proofs.CoreLaws.{core-long, core-refused, core-found}
-use Rattle.questions.specs.Answers.{laid}
+use Rattle.telling.specs.Laid.{laid}
 use Rattle.questions.specs.Question.{buffer}
 use Rattle.viewing.specs.Counts.{farmFor}
 use Rattle.knowledge.specs.Views.{View, latestTimes}

@@ -3,8 +3,8 @@
 use Rattle.questions.proofs.AskLaws.{settled-fits}
 use Rattle.questions.proofs.BufferLaws.{refused-fills, found-fills}
 use Rattle.questions.proofs.MarkLaws.{marks-refused, marks-found}
-use Rattle.questions.specs.Answers.{laid}
-use Rattle.questions.specs.Marks.{marksIn}
+use Rattle.telling.specs.Laid.{laid}
+use Rattle.telling.specs.Marks.{marksIn}
 use Rattle.questions.specs.Question.{buffer}
 use Rattle.viewing.specs.Counts.{farmFor}
 use Rattle.knowledge.specs.Views.{View}

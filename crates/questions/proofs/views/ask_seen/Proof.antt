@@ -1,8 +1,9 @@
 -- `questions::views::ask_seen` meets its contract: 8, or the view's latest times and its known set.
 -- Assumes nothing.
 use Rattle.questions.proofs.AskLaws.{place-below, view-nowhere, known-nowhere, seen-found, view-in-time}
-use Rattle.questions.proofs.TimeLaws.{times-held, length-counts, counts-bound}
-use Rattle.questions.specs.Answers.{seenAnswer, laid, noTimes}
+use Rattle.telling.proofs.TimeLaws.{times-held, length-counts, counts-bound}
+use Rattle.questions.specs.Answers.{seenAnswer, noTimes}
+use Rattle.telling.specs.Laid.{laid}
 use Rattle.questions.specs.Question.{isPlace, byValue}
 use Rattle.construction.proofs.KnownSteps.{known-held}
 use Rattle.viewing.specs.Counts.{farmFor}

@@ -2,8 +2,8 @@
 -- Assumes nothing.
 use Rattle.questions.proofs.AskLaws.{place-below, view-nowhere, view-tight, view-found, view-in-time}
 use Rattle.questions.proofs.BufferLaws.{refused-fills, found-fills}
-use Rattle.questions.proofs.TimeLaws.{times-held, length-counts, counts-bound}
-use Rattle.questions.specs.Answers.{laid}
+use Rattle.telling.proofs.TimeLaws.{times-held, length-counts, counts-bound}
+use Rattle.telling.specs.Laid.{laid}
 use Rattle.questions.specs.Question.{isPlace, buffer}
 use Rattle.viewing.specs.Counts.{farmFor}
 use Rattle.knowledge.specs.Views.{viewOf}

@@ -1,16 +1,16 @@
--- `questions::marks::count_marks` meets its contract. The loop's invariant: the count so far and the count of the edits that are
+-- `telling::marks::count_marks` meets its contract. The loop's invariant: the count so far and the count of the edits that are
 -- left make the whole.
 -- Assumes nothing.
-use Rattle.questions.proofs.MarkLaws.{mark-small, count-turn, count-end}
-use Rattle.questions.specs.Marks.{countIn}
+use Rattle.telling.proofs.MarkLaws.{mark-small, count-turn, count-end}
+use Rattle.telling.specs.Marks.{countIn}
 use Rattle.viewing.specs.Counts.{held}
 use lib.ListN.{length, drop}
 use Prim.Native.Nat.{_+_, _-_, _≤_}
 use native.Mathlib.Omega.{arith}
 use mathlib.Core.Path.{_≡_}
 use borrow.Author.Needs.{needs}
-use Rattle.questions.proofs.marks.count_marks.Statement.{statement}
-use Rattle.questions.proofs.marks.count_marks.Tie as tie
+use Rattle.telling.proofs.marks.count_marks.Statement.{statement}
+use Rattle.telling.proofs.marks.count_marks.Tie as tie
 
 abbrev Inv-loop : tie.InvT-loop
 Inv-loop core editors times count₀ edit₀ count edit =

@@ -5,8 +5,7 @@ ghost use lib.ListN.{length};
 ghost use Rattle.farm.specs.Limits.{limits};
 ghost use Rattle.knowledge.specs.Views.{latest, latestTimes};
 ghost use Rattle.viewing.specs.Counts.{held};
-ghost use Rattle.questions.specs.Accepted.{InTime};
-ghost use Rattle.questions.specs.Answers.{laid};
+ghost use Rattle.telling.specs.Laid.{InTime, laid};
 
 fn latest_time(count: u16) -> i16
     requires { ⌜ count ≤ suc (limits .mostRounds) ⌝ }

@@ -1,10 +1,10 @@
--- `questions::times::latest_time` meets its contract: one less than the count, with its sign.
+-- `telling::times::latest_time` meets its contract: one less than the count, with its sign.
 -- Assumes nothing.
-use Rattle.questions.proofs.TimeLaws.{time-fits, time-is}
+use Rattle.telling.proofs.TimeLaws.{time-fits, time-is}
 use native.Mathlib.Omega.{arith}
 use borrow.Author.Needs.{needs}
-use Rattle.questions.proofs.times.latest_time.Statement.{statement}
-use Rattle.questions.proofs.times.latest_time.Tie as tie
+use Rattle.telling.proofs.times.latest_time.Statement.{statement}
+use Rattle.telling.proofs.times.latest_time.Tie as tie
 
 cast-result : tie.Need-cast-result
 cast-result c = search needs

@@ -1,10 +1,10 @@
--- `questions::marks::mark_of` meets its contract: the place is tested against the seat's count.
+-- `telling::marks::mark_of` meets its contract: the place is tested against the seat's count.
 -- Assumes nothing.
-use Rattle.questions.proofs.MarkLaws.{mark-far, mark-inside, mark-outside}
+use Rattle.telling.proofs.MarkLaws.{mark-far, mark-inside, mark-outside}
 use denote.Ref.{now}
 use borrow.Author.Needs.{needs}
-use Rattle.questions.proofs.marks.mark_of.Statement.{statement}
-use Rattle.questions.proofs.marks.mark_of.Tie as tie
+use Rattle.telling.proofs.marks.mark_of.Statement.{statement}
+use Rattle.telling.proofs.marks.mark_of.Tie as tie
 
 cast-at : tie.Need-cast-at
 cast-at c = search needs

@@ -1,17 +1,17 @@
--- `questions::marks::put_marks` meets its contract. The loop's invariant: the buffer's first i bytes are the marks of the first i
+-- `telling::marks::put_marks` meets its contract. The loop's invariant: the buffer's first i bytes are the marks of the first i
 -- edits, and the others are the old ones.
 -- Assumes nothing.
-use Rattle.questions.proofs.BufferLaws.{laidTo, laid-turn, laid-whole}
-use Rattle.questions.proofs.MarkLaws.{length-marks, getD-marks}
-use Rattle.questions.specs.Marks.{marksIn}
+use Rattle.telling.proofs.LaidLaws.{laidTo, laid-turn, laid-whole}
+use Rattle.telling.proofs.MarkLaws.{length-marks, getD-marks}
+use Rattle.telling.specs.Marks.{marksIn}
 use Rattle.viewing.specs.Counts.{held}
 use lib.ListN.{length, length-set}
 use Prim.Native.Nat.{_-_, _≤_}
 use native.Mathlib.Omega.{arith}
 use mathlib.Core.Path.{_≡_, refl, sym, _∙_}
 use borrow.Author.Needs.{needs}
-use Rattle.questions.proofs.marks.put_marks.Statement.{statement}
-use Rattle.questions.proofs.marks.put_marks.Tie as tie
+use Rattle.telling.proofs.marks.put_marks.Statement.{statement}
+use Rattle.telling.proofs.marks.put_marks.Tie as tie
 
 abbrev Inv-loop : tie.InvT-loop
 Inv-loop core editors times out₀ i₀ out i =

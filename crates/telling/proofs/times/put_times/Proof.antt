@@ -1,8 +1,8 @@
--- `questions::times::put_times` meets its contract. The loop's invariant: the buffer's first q entries are the latest times of
+-- `telling::times::put_times` meets its contract. The loop's invariant: the buffer's first q entries are the latest times of
 -- the seats below q, and the others are the old ones.
 -- Assumes nothing.
-use Rattle.questions.proofs.BufferLaws.{laidTo, laid-turn, laid-whole}
-use Rattle.questions.proofs.TimeLaws.{length-times, getD-times, time-kept}
+use Rattle.telling.proofs.LaidLaws.{laidTo, laid-turn, laid-whole}
+use Rattle.telling.proofs.TimeLaws.{length-times, getD-times, time-kept}
 use Rattle.knowledge.specs.Views.{latestTimes}
 use Rattle.viewing.specs.Counts.{held}
 use lib.IntN.{pos}
@@ -11,8 +11,8 @@ use Prim.Native.Nat.{_-_, _≤_}
 use native.Mathlib.Omega.{arith}
 use mathlib.Core.Path.{_≡_, refl, sym, _∙_}
 use borrow.Author.Needs.{needs}
-use Rattle.questions.proofs.times.put_times.Statement.{statement}
-use Rattle.questions.proofs.times.put_times.Tie as tie
+use Rattle.telling.proofs.times.put_times.Statement.{statement}
+use Rattle.telling.proofs.times.put_times.Tie as tie
 
 abbrev Inv-loop : tie.InvT-loop
 Inv-loop counts seats out₀ end q₀ out q = (q ≤ seats) × (length out ≡ length out₀) × (out ≡ laidTo q (latestTimes seats (held counts)) out₀)

@@ -1,0 +1,4 @@
+pub mod LaidLaws
+pub mod MarkLaws
+pub mod TimeLaws
+pub mod CompleteLaws
