@@ -1,5 +1,6 @@
 // The questions on a record given as lists, tables that are already read. The order of refusals: those
 // of lists, as for writing but without the room for it, then 8, 7, 9.
+use crate::carrier::check_lists;
 use carriers::carried::agreed_in;
 use carriers::carried::core_in;
 use carriers::carried::marks_in;
@@ -8,44 +9,14 @@ use carriers::carried::standing_in;
 use carriers::carried::view_in;
 use farm::places::Seat;
 use farm::places::Time;
-use judging::lists::judge;
 use questions::answers::Agreed;
 use questions::answers::Given;
 use questions::answers::Seen;
 use questions::answers::Standing;
-use record::answers::Checked;
-use record::answers::Judged;
-use record::header::Header;
 ghost use mathlib.Core.Path.{_≡_};
 ghost use Rattle.questions.specs.Question.{viewAsked, coreAsked, marksAsked, loserAsked};
 ghost use Rattle.carriers.specs.Loading.{listsRead};
-ghost use Rattle.carriers.specs.Carried.{Carried};
 ghost use Rattle.questions.specs.Answers.{Fills, standingAnswer, seenAsked, agreedAsked};
-
-// What the lists read as: the refusal that the order decides, or the header of the record that they are.
-fn check_lists<'a>(
-    seats: u8,
-    bound: u8,
-    rounds: u16,
-    losses: &'a [u16],
-    editors: &'a [u8],
-    times: &'a [u16],
-    cells: &'a [u32],
-    changes: &'a [i16],
-) -> Checked
-    ensures { λ r. ⌜ Carried (listsRead seats bound rounds (now (losses .entry)) (now (editors .entry)) (now (times .entry)) (now (cells .entry)) (now (changes .entry))) r (now (losses .entry)) (now (editors .entry)) (now (times .entry)) ⌝ }
-{
-    let judged = judge(seats, bound, rounds, losses, editors, times, cells, changes);
-    match judged {
-        Judged::Refused(refusal) => Checked::Refused(refusal),
-        Judged::Accepted => Checked::Good(Header {
-            seats,
-            bound,
-            rounds,
-            edits: editors.len() as u16,
-        }),
-    }
-}
 
 // What a seat has seen at a time: its view, and the known set.
 pub fn seen<'a>(

@@ -1,5 +1,6 @@
 -- `host_bytes::asks::ricecrock_bytes_agreed` meets its contract, by the question on bytes.
 -- Assumes nothing.
+use mathlib.Core.Path.{refl}
 use native.Mathlib.Omega.{arith}
 use Rattle.host.proofs.AskedLaws.{bytes-sound, agreed-asked}
 use borrow.Author.Needs.{needs}
@@ -19,7 +20,7 @@ tell-agreed-requires : tie.Need-tell-agreed-requires
 tell-agreed-requires c κs = search needs
 
 returns : tie.Need-returns
-returns c = agreed-asked _ (bytes-sound _ (λ i. omega (arith, c .before .before .before .before .shared-slice-known .given i))) _ _ (c .before .before .before .seat-of .ensures) _ _ (c .before .before .time-of .ensures) (c .before .agreed .ensures) (c .tell-agreed .ensures)
+returns c = agreed-asked _ (bytes-sound _ (λ i. omega (arith, c .before .before .before .before .shared-slice-known .given i))) refl _ _ (c .before .before .before .seat-of .ensures) _ _ (c .before .before .time-of .ensures) (c .before .agreed .ensures) (c .tell-agreed .ensures)
 
 pub ricecrock-bytes-agreed-spec : {M : Type 1} → statement M
 ricecrock-bytes-agreed-spec =

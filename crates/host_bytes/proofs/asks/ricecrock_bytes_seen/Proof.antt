@@ -1,5 +1,6 @@
 -- `host_bytes::asks::ricecrock_bytes_seen` meets its contract, by the question on bytes.
 -- Assumes nothing.
+use mathlib.Core.Path.{refl}
 use native.Mathlib.Omega.{arith}
 use Rattle.host.proofs.AskedLaws.{bytes-sound, seen-asked}
 use borrow.Author.Needs.{needs}
@@ -19,7 +20,7 @@ tell-seen-requires : tie.Need-tell-seen-requires
 tell-seen-requires c κs = search needs
 
 returns : tie.Need-returns
-returns c = seen-asked _ (bytes-sound _ (λ i. omega (arith, c .before .before .before .before .shared-slice-known .given i))) _ _ (c .before .before .before .seat-of .ensures) _ _ (c .before .before .time-of .ensures) (c .before .seen .ensures) (c .tell-seen .ensures)
+returns c = seen-asked _ (bytes-sound _ (λ i. omega (arith, c .before .before .before .before .shared-slice-known .given i))) refl _ _ (c .before .before .before .seat-of .ensures) _ _ (c .before .before .time-of .ensures) (c .before .seen .ensures) (c .tell-seen .ensures)
 
 pub ricecrock-bytes-seen-spec : {M : Type 1} → statement M
 ricecrock-bytes-seen-spec =

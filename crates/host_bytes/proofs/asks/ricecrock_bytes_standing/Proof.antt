@@ -1,5 +1,6 @@
 -- `host_bytes::asks::ricecrock_bytes_standing` meets its contract, by the question on bytes.
 -- Assumes nothing.
+use mathlib.Core.Path.{refl}
 use native.Mathlib.Omega.{arith}
 use Rattle.host.proofs.AskedLaws.{bytes-sound, standing-asked}
 use borrow.Author.Needs.{needs}
@@ -16,7 +17,7 @@ tell-standing-requires : tie.Need-tell-standing-requires
 tell-standing-requires c κs = search needs
 
 returns : tie.Need-returns
-returns c = standing-asked _ (bytes-sound _ (λ i. omega (arith, c .before .before .before .shared-slice-known .given i))) _ _ (c .before .before .seat-of .ensures) (c .before .standing .ensures) (c .tell-standing .ensures)
+returns c = standing-asked _ (bytes-sound _ (λ i. omega (arith, c .before .before .before .shared-slice-known .given i))) refl _ _ (c .before .before .seat-of .ensures) (c .before .standing .ensures) (c .tell-standing .ensures)
 
 pub ricecrock-bytes-standing-spec : {M : Type 1} → statement M
 ricecrock-bytes-standing-spec =
