@@ -1,0 +1,4 @@
+pub mod WideLaws
+pub mod Stepped
+pub mod Handing
+pub mod CompleteLaws

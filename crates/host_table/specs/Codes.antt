@@ -1,0 +1,35 @@
+-- How a call of a host on the live table ends, and what the record so far leaves.
+use mathlib.Core.Path.{_≡_}
+use mathlib.Core.Bool.{Bool, true, false, cond, _&&_}
+use mathlib.Core.List.{List}
+use Prim.Native.Nat.{ℕ}
+use lib.Dec.{leb}
+use lib.IntN.{ℤ, pos}
+use lib.ListN.{length}
+use Rattle.farm.specs.Limits.{limits}
+use Rattle.farm.specs.declared.places.Seat.{Seat}
+use Rattle.record.specs.Answers.{writtenIn}
+use Rattle.record.specs.Changes.{mapped}
+use Rattle.record.specs.Record.{Reading}
+use Rattle.record.specs.Writing.{answered, bufferWith}
+use Rattle.live_table.specs.declared.table.Table.{Table}
+use Rattle.live.specs.Answers.{doneOf}
+use Rattle.live.specs.Calls.{Call, answerTo, tableAfter}
+use Rattle.host.specs.declared.numbers.SeatNumber.{SeatNumber}
+use Rattle.host.specs.declared.results.LengthTold.{LengthTold}
+use Rattle.host.specs.Numbers.{atMost}
+use Rattle.host.specs.Results.{doneNumber, lengthTold}
+
+-- As `live`'s `Ends`, with the answer as its number.
+abbrev pub EndsWith : Call → (before : Table) (number : ℕ) (after : Table) → Type 0
+EndsWith call before number after = (number ≡ doneNumber (doneOf (answerTo call before))) × (after ≡ tableAfter call before)
+
+-- The seat and the change of an edit as the library's step takes them: a change that is none goes with a seat that no record has.
+pub record EditHanded (seat : SeatNumber) (change : ℤ) (handed : Seat) (given : ℤ) : Type 0 where
+  pub whose : handed ≡ cond (leb (mapped change) (limits .largestMappedChange)) (record { 0 = atMost 255 (seat .0) }) (record { 0 = 255 })
+  pub what : given ≡ cond (leb (mapped change) (limits .largestMappedChange)) change (pos 0)
+
+-- What the record so far leaves: the result, and the buffer. A refusal leaves what was there.
+pub record RecordTold (reading : Reading) (buffer : List ℕ) (told : LengthTold) (after : List ℕ) : Type 0 where
+  pub answered : told ≡ lengthTold (writtenIn (answered limits reading (length buffer)))
+  pub left : after ≡ bufferWith limits reading buffer
