@@ -25,19 +25,34 @@ enum {
 // One of the two codes.
 struct code {
     const char *name;
-    __typeof__(ricecrock_read) *read;
-    __typeof__(ricecrock_write) *write;
-    __typeof__(ricecrock_core) *core;
-    __typeof__(ricecrock_page) *page;
-    __typeof__(ricecrock_open) *open;
-    __typeof__(ricecrock_add_round) *add_round;
+    __typeof__(ricecrock_bytes_read) *read;
+    __typeof__(ricecrock_lists_write) *write;
+    __typeof__(ricecrock_bytes_core) *core;
+    __typeof__(ricecrock_bytes_page) *page;
+    __typeof__(ricecrock_table_open) *open;
+    __typeof__(ricecrock_table_add_round) *add_round;
+    __typeof__(ricecrock_table_add_edit) *add_edit;
 };
 
 static const struct code library = {
-    "library", ricecrock_read, ricecrock_write, ricecrock_core, ricecrock_page, ricecrock_open, ricecrock_add_round,
+    "library",
+    ricecrock_bytes_read,
+    ricecrock_lists_write,
+    ricecrock_bytes_core,
+    ricecrock_bytes_page,
+    ricecrock_table_open,
+    ricecrock_table_add_round,
+    ricecrock_table_add_edit,
 };
 static const struct code plain = {
-    "C", plain_read, plain_write, plain_core, plain_page, plain_open, plain_add_round,
+    "C",
+    plain_bytes_read,
+    plain_lists_write,
+    plain_bytes_core,
+    plain_bytes_page,
+    plain_table_open,
+    plain_table_add_round,
+    plain_table_add_edit,
 };
 
 // A record as lists and as bytes.
@@ -55,10 +70,11 @@ struct record {
     size_t length;
 };
 
-// Everything that is lent to a call, and what it answered.
+// Everything that is lent to a call, and what it answered, number by number: the bytes between the fields of a result
+// may differ.
 struct lent {
     uint16_t losses[RICECROCK_LOSS_SETS];
-    uint8_t seats[RICECROCK_EDITS];
+    uint8_t editors[RICECROCK_EDITS];
     uint16_t times[RICECROCK_EDITS];
     uint32_t cells[RICECROCK_EDITS];
     int16_t changes[RICECROCK_EDITS];
@@ -70,7 +86,7 @@ struct lent {
     size_t page_length;
     struct ricecrock_table table;
     uint8_t answer;
-    uint8_t answers[6];
+    uint8_t answers[7];
 };
 
 static struct record longest, typical, played;
@@ -142,13 +158,13 @@ static void fill_edits(struct record *record, unsigned wide)
     }
 }
 
-static uint8_t write_record(const struct code *code, const struct record *record, uint8_t *out, size_t room,
-                            size_t *length)
+static struct ricecrock_length write_record(const struct code *code, const struct record *record, uint8_t *out,
+                                            size_t room)
 {
     size_t edits = record->edits;
     return code->write(record->seats, record->bound, record->rounds, record->losses,
                        (size_t)record->seats * record->rounds, record->editors, edits, record->times, edits,
-                       record->cells, edits, record->changes, edits, out, room, length);
+                       record->cells, edits, record->changes, edits, out, room);
 }
 
 static void build(struct record *record, uint8_t seats, uint8_t bound, uint16_t rounds, uint16_t edits, unsigned wide)
@@ -159,51 +175,75 @@ static void build(struct record *record, uint8_t seats, uint8_t bound, uint16_t 
     record->edits = edits;
     fill_losses(record);
     fill_edits(record, wide);
-    if (write_record(&plain, record, record->bytes, sizeof record->bytes, &record->length))
+    struct ricecrock_length written = write_record(&plain, record, record->bytes, sizeof record->bytes);
+    if (written.refusal)
         fail("a record that was built is refused");
+    record->length = written.length;
 }
 
 // ---- The operations ----
 
-static uint8_t read_bytes(const struct code *code, struct lent *lent, const uint8_t *bytes, size_t count)
+static uint8_t read_into(const struct code *code, struct lent *lent, const struct record *record)
 {
-    return code->read(bytes, count, lent->losses, RICECROCK_LOSS_SETS, lent->seats, RICECROCK_EDITS, lent->times,
-                      RICECROCK_EDITS, lent->cells, RICECROCK_EDITS, lent->changes, RICECROCK_EDITS, lent->header);
+    struct ricecrock_header header =
+        code->read(record->bytes, record->length, lent->losses, RICECROCK_LOSS_SETS, lent->editors, RICECROCK_EDITS,
+                   lent->times, RICECROCK_EDITS, lent->cells, RICECROCK_EDITS, lent->changes, RICECROCK_EDITS);
+    lent->header[0] = header.seats;
+    lent->header[1] = header.bound;
+    lent->header[2] = header.rounds;
+    lent->header[3] = header.edits;
+    return header.refusal;
+}
+
+static uint8_t write_into(const struct code *code, struct lent *lent, const struct record *record, size_t room)
+{
+    struct ricecrock_length written = write_record(code, record, lent->out, room);
+    lent->length = written.length;
+    return written.refusal;
+}
+
+static uint8_t print_into(const struct code *code, struct lent *lent, const struct record *record)
+{
+    struct ricecrock_length page = code->page(record->bytes, record->length, lent->page, sizeof lent->page);
+    lent->page_length = page.length;
+    return page.refusal;
 }
 
 static void read_longest(const struct code *code, struct lent *lent)
 {
-    lent->answer = read_bytes(code, lent, longest.bytes, longest.length);
+    lent->answer = read_into(code, lent, &longest);
 }
 
 static void read_typical(const struct code *code, struct lent *lent)
 {
-    lent->answer = read_bytes(code, lent, typical.bytes, typical.length);
+    lent->answer = read_into(code, lent, &typical);
 }
 
 static void write_longest(const struct code *code, struct lent *lent)
 {
-    lent->answer = write_record(code, &longest, lent->out, sizeof lent->out, &lent->length);
+    lent->answer = write_into(code, lent, &longest, sizeof lent->out);
 }
 
 static void write_typical(const struct code *code, struct lent *lent)
 {
-    lent->answer = write_record(code, &typical, lent->out, sizeof lent->out, &lent->length);
+    lent->answer = write_into(code, lent, &typical, sizeof lent->out);
 }
 
 static void write_exact(const struct code *code, struct lent *lent)
 {
-    lent->answer = write_record(code, &typical, lent->out, typical.length, &lent->length);
+    lent->answer = write_into(code, lent, &typical, typical.length);
 }
 
 static void core_last(const struct code *code, struct lent *lent)
 {
-    lent->answer = code->core(longest.bytes, longest.length, 4, ROUNDS, lent->core, SEATS);
+    struct ricecrock_seat seat = {4};
+    struct ricecrock_time time = {ROUNDS};
+    lent->answer = code->core(longest.bytes, longest.length, seat, time, lent->core, SEATS);
 }
 
 static void page_longest(const struct code *code, struct lent *lent)
 {
-    lent->answer = code->page(longest.bytes, longest.length, lent->page, sizeof lent->page, &lent->page_length);
+    lent->answer = print_into(code, lent, &longest);
 }
 
 static void open_table(const struct code *code, struct lent *lent)
@@ -221,6 +261,17 @@ static void add_last_round(const struct code *code, struct lent *lent)
     lent->answer = code->add_round(&lent->table, &longest.losses[SEATS * (ROUNDS - 1)], SEATS);
 }
 
+// The table has one edit less than it can hold, and gets its last one.
+static void add_last_edit(const struct code *code, struct lent *lent)
+{
+    struct ricecrock_seat seat = {SEATS - 1};
+    lent->table.seats = SEATS;
+    lent->table.bound = BOUND;
+    lent->table.rounds = ROUNDS - 1;
+    lent->table.edits = RICECROCK_EDITS - 1;
+    lent->answer = code->add_edit(&lent->table, seat, UINT16_MAX, -1);
+}
+
 struct operation {
     const char *name;
     void (*run)(const struct code *code, struct lent *lent);
@@ -235,6 +286,7 @@ static const struct operation operations[] = {
     {"one core at the last time", core_last},
     {"the whole page", page_longest},
     {"live, the last round", add_last_round},
+    {"live, the last edit", add_last_edit},
     {"live, opening", open_table},
 };
 
@@ -276,16 +328,17 @@ static void compare_operations(void)
 
 // One record, often with one fault, to both codes.
 static void try_code(const struct code *code, struct lent *lent, const struct record *record, size_t room,
-                     unsigned seat, unsigned time)
+                     struct ricecrock_seat seat, struct ricecrock_time time)
 {
     uint8_t *answers = lent->answers;
-    answers[0] = read_bytes(code, lent, record->bytes, record->length);
-    answers[1] = write_record(code, record, lent->out, room, &lent->length);
+    answers[0] = read_into(code, lent, record);
+    answers[1] = write_into(code, lent, record, room);
     answers[2] = code->core(record->bytes, record->length, seat, time, lent->core, any(8) == 0 ? 2 : SEATS);
-    answers[3] = code->page(record->bytes, record->length, lent->page, sizeof lent->page, &lent->page_length);
+    answers[3] = print_into(code, lent, record);
     if (any(8) == 0)
-        answers[4] = code->open(&lent->table, seat, time);
+        answers[4] = code->open(&lent->table, seat.number, time.number);
     answers[5] = code->add_round(&lent->table, record->losses, any(8));
+    answers[6] = code->add_edit(&lent->table, seat, any(70000), any_change(1));
 }
 
 static void compare_trials(void)
@@ -303,7 +356,8 @@ static void compare_trials(void)
             record.losses[any(RICECROCK_LOSS_SETS)] = any(256);
         if (any(2) == 0)
             record.cells[any(20)] = any(70000);
-        unsigned seat = any(8), time = any(14);
+        struct ricecrock_seat seat = {any(8)};
+        struct ricecrock_time time = {any(14)};
         uint64_t same = seed;
         try_code(&library, &lent_library, &record, room, seat, time);
         seed = same;

@@ -27,6 +27,7 @@ enum refusal {
     OVER_BOUND = 9,
     BAD_LENGTHS = 10,
     ROUNDS_FULL = 11,
+    EDITS_FULL = 12,
     BAD_TABLE = 19,
 };
 
@@ -231,34 +232,31 @@ static void fill(const uint8_t *bytes, size_t count, uint16_t *losses, uint8_t *
     }
 }
 
-uint8_t plain_read(const uint8_t *bytes, size_t bytes_count, uint16_t *losses, size_t losses_count, uint8_t *seats,
-                   size_t seats_count, uint16_t *times, size_t times_count, uint32_t *cells, size_t cells_count,
-                   int16_t *changes, size_t changes_count, uint16_t numbers[4])
+struct ricecrock_header plain_bytes_read(const uint8_t *bytes, size_t bytes_count, uint16_t *losses,
+                                         size_t losses_count, uint8_t *editors, size_t editors_count, uint16_t *times,
+                                         size_t times_count, uint32_t *cells, size_t cells_count, int16_t *changes,
+                                         size_t changes_count)
 {
-    if (losses_count < RICECROCK_LOSS_SETS || seats_count < RICECROCK_EDITS || times_count < RICECROCK_EDITS ||
+    if (losses_count < RICECROCK_LOSS_SETS || editors_count < RICECROCK_EDITS || times_count < RICECROCK_EDITS ||
         cells_count < RICECROCK_EDITS || changes_count < RICECROCK_EDITS)
-        return NO_ROOM;
+        return (struct ricecrock_header){NO_ROOM, 0, 0, 0, 0};
     struct header header;
     enum refusal refusal = check(bytes, bytes_count, &header);
     if (refusal)
-        return refusal;
-    fill(bytes, bytes_count, losses, seats, times, cells, changes);
-    numbers[0] = header.seats;
-    numbers[1] = header.bound;
-    numbers[2] = header.rounds;
-    numbers[3] = header.edits;
-    return ACCEPTED;
+        return (struct ricecrock_header){refusal, 0, 0, 0, 0};
+    fill(bytes, bytes_count, losses, editors, times, cells, changes);
+    return (struct ricecrock_header){ACCEPTED, header.seats, header.bound, header.rounds, header.edits};
 }
 
 // ---- Writing ----
 
-static bool good_header(uint8_t seats, uint8_t bound, uint16_t rounds, size_t edits)
+static bool good_header(uint32_t seats, uint32_t bound, uint32_t rounds, size_t edits)
 {
     return seats >= FEWEST_SEATS && seats <= MOST_SEATS && bound < seats && rounds <= MOST_ROUNDS &&
            edits <= MOST_EDITS;
 }
 
-static bool lengths_fit(uint8_t seats, uint16_t rounds, const struct lists *lists)
+static bool lengths_fit(uint32_t seats, uint32_t rounds, const struct lists *lists)
 {
     size_t edits = lists->editors_count;
     return lists->losses_count == (size_t)seats * rounds && lists->times_count == edits &&
@@ -296,7 +294,7 @@ static enum refusal judge_edits(uint8_t seats, uint16_t rounds, const struct lis
     return ACCEPTED;
 }
 
-static enum refusal judge(uint8_t seats, uint8_t bound, uint16_t rounds, const struct lists *lists)
+static enum refusal judge(uint32_t seats, uint32_t bound, uint32_t rounds, const struct lists *lists)
 {
     if (!good_header(seats, bound, rounds, lists->editors_count))
         return OUT_OF_RANGE;
@@ -359,20 +357,20 @@ static uint8_t *put_record(uint8_t *out, uint8_t seats, uint8_t bound, uint16_t 
     return out;
 }
 
-uint8_t plain_write(uint8_t seats, uint8_t bound, uint16_t rounds, const uint16_t *losses, size_t losses_count,
-                    const uint8_t *editors, size_t editors_count, const uint16_t *times, size_t times_count,
-                    const uint32_t *cells, size_t cells_count, const int16_t *changes, size_t changes_count,
-                    uint8_t *out, size_t out_count, size_t *length)
+struct ricecrock_length plain_lists_write(uint32_t seats, uint32_t bound, uint32_t rounds, const uint16_t *losses,
+                                          size_t losses_count, const uint8_t *editors, size_t editors_count,
+                                          const uint16_t *times, size_t times_count, const uint32_t *cells,
+                                          size_t cells_count, const int16_t *changes, size_t changes_count,
+                                          uint8_t *out, size_t out_count)
 {
     struct lists lists = {losses, losses_count, editors, editors_count, times,
                           times_count, cells, cells_count, changes, changes_count};
     enum refusal refusal = judge(seats, bound, rounds, &lists);
     if (refusal)
-        return refusal;
+        return (struct ricecrock_length){refusal, 0};
     if (!has_room(out_count, seats, bound, rounds, &lists))
-        return NO_ROOM;
-    *length = put_record(out, seats, bound, rounds, &lists) - out;
-    return ACCEPTED;
+        return (struct ricecrock_length){NO_ROOM, 0};
+    return (struct ricecrock_length){ACCEPTED, put_record(out, seats, bound, rounds, &lists) - out};
 }
 
 // ---- Views and the core ----
@@ -498,8 +496,8 @@ static enum refusal settle(const struct farm *farm, unsigned seat, unsigned time
     }
 }
 
-uint8_t plain_core(const uint8_t *bytes, size_t bytes_count, uint8_t seat, uint16_t time, int16_t *out,
-                   size_t out_count)
+uint8_t plain_bytes_core(const uint8_t *bytes, size_t bytes_count, struct ricecrock_seat seat,
+                         struct ricecrock_time time, int16_t *out, size_t out_count)
 {
     uint16_t losses[RICECROCK_LOSS_SETS];
     uint8_t editors[RICECROCK_EDITS];
@@ -512,12 +510,12 @@ uint8_t plain_core(const uint8_t *bytes, size_t bytes_count, uint8_t seat, uint1
         return refusal;
     fill(bytes, bytes_count, losses, editors, times, cells, changes);
     struct farm farm = {header.seats, header.bound, losses};
-    if (seat >= farm.seats || time > header.rounds)
+    if (seat.number >= farm.seats || time.number > header.rounds)
         return NO_SUCH_PLACE;
     if (out_count < farm.seats)
         return NO_ROOM;
     struct settled settled;
-    if ((refusal = settle(&farm, seat, time, &settled)))
+    if ((refusal = settle(&farm, seat.number, time.number, &settled)))
         return refusal;
     for (unsigned q = 0; q < farm.seats; q++)
         out[q] = settled.core.of[q] - 1;
@@ -634,10 +632,10 @@ static uint8_t *put_time_lines(uint8_t *out, const struct farm *farm, const stru
     return out;
 }
 
-uint8_t plain_page(const uint8_t *bytes, size_t bytes_count, uint8_t *out, size_t out_count, size_t *length)
+struct ricecrock_length plain_bytes_page(const uint8_t *bytes, size_t bytes_count, uint8_t *out, size_t out_count)
 {
     if (out_count < RICECROCK_PAGE)
-        return NO_ROOM;
+        return (struct ricecrock_length){NO_ROOM, 0};
     uint16_t losses[RICECROCK_LOSS_SETS];
     uint8_t editors[RICECROCK_EDITS];
     uint16_t times[RICECROCK_EDITS];
@@ -646,8 +644,8 @@ uint8_t plain_page(const uint8_t *bytes, size_t bytes_count, uint8_t *out, size_
     struct header header;
     enum refusal refusal = check(bytes, bytes_count, &header);
     if (refusal) {
-        *length = put_word(put_decimal(put_word(out, "refused "), refusal), "\n") - out;
-        return ACCEPTED;
+        uint8_t *end = put_word(put_decimal(put_word(out, "refused "), refusal), "\n");
+        return (struct ricecrock_length){ACCEPTED, end - out};
     }
     fill(bytes, bytes_count, losses, editors, times, cells, changes);
     struct farm farm = {header.seats, header.bound, losses};
@@ -656,8 +654,7 @@ uint8_t plain_page(const uint8_t *bytes, size_t bytes_count, uint8_t *out, size_
     struct places places = {editors, times, header.edits};
     for (unsigned time = 0; time <= header.rounds; time++)
         end = put_time_lines(end, &farm, &places, losers, time);
-    *length = end - out;
-    return ACCEPTED;
+    return (struct ricecrock_length){ACCEPTED, end - out};
 }
 
 // ---- The live table ----
@@ -672,7 +669,7 @@ static bool good_table(const struct ricecrock_table *table)
     return judge(table->seats, table->bound, table->rounds, &lists) == ACCEPTED;
 }
 
-uint8_t plain_open(struct ricecrock_table *table, uint8_t seats, uint8_t bound)
+uint8_t plain_table_open(struct ricecrock_table *table, uint32_t seats, uint32_t bound)
 {
     if (!good_header(seats, bound, 0, 0))
         return OUT_OF_RANGE;
@@ -683,7 +680,7 @@ uint8_t plain_open(struct ricecrock_table *table, uint8_t seats, uint8_t bound)
     return ACCEPTED;
 }
 
-uint8_t plain_add_round(struct ricecrock_table *table, const uint16_t *sets, size_t sets_count)
+uint8_t plain_table_add_round(struct ricecrock_table *table, const uint16_t *sets, size_t sets_count)
 {
     if (!good_table(table))
         return BAD_TABLE;
@@ -695,5 +692,29 @@ uint8_t plain_add_round(struct ricecrock_table *table, const uint16_t *sets, siz
         return BAD_LOSS_SET;
     memcpy(&table->losses[table->seats * table->rounds], sets, sets_count * sizeof *sets);
     table->rounds++;
+    return ACCEPTED;
+}
+
+uint8_t plain_table_add_edit(struct ricecrock_table *table, struct ricecrock_seat seat, uint32_t cell, int32_t change)
+{
+    if (!good_table(table))
+        return BAD_TABLE;
+    if (seat.number >= table->seats || cell > LARGEST_CELL || change < INT16_MIN || change > INT16_MAX)
+        return OUT_OF_RANGE;
+    unsigned at = table->edits;
+    if (at == MOST_EDITS)
+        return EDITS_FULL;
+    struct edit edit = {seat.number, table->rounds, cell, change};
+    if (at > 0) {
+        struct edit last = {table->editors[at - 1], table->times[at - 1], table->cells[at - 1],
+                            table->changes[at - 1]};
+        if (!rises(&last, &edit))
+            return BAD_ORDER;
+    }
+    table->editors[at] = edit.seat;
+    table->times[at] = edit.time;
+    table->cells[at] = edit.cell;
+    table->changes[at] = edit.change;
+    table->edits++;
     return ACCEPTED;
 }

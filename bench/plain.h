@@ -5,22 +5,26 @@
 
 #include "ricecrock.h"
 
-uint8_t plain_read(const uint8_t *bytes, size_t bytes_count, uint16_t *losses, size_t losses_count, uint8_t *seats,
-                   size_t seats_count, uint16_t *times, size_t times_count, uint32_t *cells, size_t cells_count,
-                   int16_t *changes, size_t changes_count, uint16_t header[4]);
+struct ricecrock_header plain_bytes_read(const uint8_t *bytes, size_t bytes_count, uint16_t *losses,
+                                         size_t losses_count, uint8_t *editors, size_t editors_count, uint16_t *times,
+                                         size_t times_count, uint32_t *cells, size_t cells_count, int16_t *changes,
+                                         size_t changes_count);
 
-uint8_t plain_write(uint8_t seats, uint8_t bound, uint16_t rounds, const uint16_t *losses, size_t losses_count,
-                    const uint8_t *editors, size_t editors_count, const uint16_t *times, size_t times_count,
-                    const uint32_t *cells, size_t cells_count, const int16_t *changes, size_t changes_count,
-                    uint8_t *out, size_t out_count, size_t *length);
+struct ricecrock_length plain_bytes_page(const uint8_t *bytes, size_t bytes_count, uint8_t *out, size_t out_count);
 
-uint8_t plain_core(const uint8_t *bytes, size_t bytes_count, uint8_t seat, uint16_t time, int16_t *out,
-                   size_t out_count);
+uint8_t plain_bytes_core(const uint8_t *bytes, size_t bytes_count, struct ricecrock_seat seat,
+                         struct ricecrock_time time, int16_t *out, size_t out_count);
 
-uint8_t plain_page(const uint8_t *bytes, size_t bytes_count, uint8_t *out, size_t out_count, size_t *length);
+struct ricecrock_length plain_lists_write(uint32_t seats, uint32_t bound, uint32_t rounds, const uint16_t *losses,
+                                          size_t losses_count, const uint8_t *editors, size_t editors_count,
+                                          const uint16_t *times, size_t times_count, const uint32_t *cells,
+                                          size_t cells_count, const int16_t *changes, size_t changes_count,
+                                          uint8_t *out, size_t out_count);
 
-uint8_t plain_open(struct ricecrock_table *table, uint8_t seats, uint8_t bound);
+uint8_t plain_table_open(struct ricecrock_table *table, uint32_t seats, uint32_t bound);
 
-uint8_t plain_add_round(struct ricecrock_table *table, const uint16_t *sets, size_t sets_count);
+uint8_t plain_table_add_round(struct ricecrock_table *table, const uint16_t *sets, size_t sets_count);
+
+uint8_t plain_table_add_edit(struct ricecrock_table *table, struct ricecrock_seat seat, uint32_t cell, int32_t change);
 
 #endif

@@ -2,9 +2,10 @@
 // that a host keeps while a farm is played. Each of the three has the same questions.
 //
 // Every function takes any input. It gives document 01's number of the refusal, or RICECROCK_DONE, as its result or
-// in the field `refusal` of its result. A refusal changes nothing that was lent, and the other fields of the result
-// are then 0, or -1 for times. A slice is a pointer and the count of its entries. What C cannot say, a host has to
-// keep: a pointer has as many entries as its count says, and what is written overlaps nothing else that is lent.
+// in the field `refusal` of its result. A refusal changes nothing that was lent; beside it, the latest times of the
+// result are -1 and its other fields 0. A slice is a pointer and the count of its entries. What C cannot say, a host
+// has to keep: a pointer has as many entries as its count says, all of them written once, and what the library writes
+// overlaps nothing else that is lent.
 #ifndef RICECROCK_H
 #define RICECROCK_H
 

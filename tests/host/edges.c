@@ -2,7 +2,6 @@
 // reading and writing, 1 to 7 and 10, by the calls of a host. Each row prints a line. What has to come out stands in
 // edges.expected, which was worked out by hand from the document.
 #include "host.h"
-#include "ricecrock.h"
 
 #include <stdio.h>
 #include <string.h>
@@ -16,74 +15,79 @@ enum {
 struct row {
     void (*run)(const struct row *row);
     const char *name;
-    const char *record;   // as hexadecimal digits
-    size_t zeros;         // bytes 0 after those
-    int32_t value;        // a cell, a change, or the number that a change is written as
-    struct counts counts; // the lists' lengths
-    size_t space;         // bytes to write into
+    const char *record;        // as hexadecimal digits
+    size_t zeros;              // bytes 0 after those
+    int32_t value;             // a cell, a change, or the number that a change is written as
+    size_t counts[LIST_COUNT]; // the lists' lengths
+    size_t space;              // bytes to write into
 };
 
 // ---- What a row does
 
-static const struct counts any_record = {
-    RICECROCK_LOSS_SETS, RICECROCK_EDITS, RICECROCK_EDITS, RICECROCK_EDITS, RICECROCK_EDITS,
-};
-
-static void say_answer(uint8_t answer)
+static struct bytes lend_record(const struct row *row)
 {
-    if (answer == 0)
+    size_t digits = 0;
+    for (const char *at = row->record; *at; at++)
+        digits += hex_digit(*at) >= 0;
+    struct bytes record = {.count = digits / 2 + row->zeros};
+    record.start = lend("the record", 1, record.count);
+    memset(record.start, 0, record.count);
+    hex_bytes(row->record, strlen(row->record), record.start, digits / 2);
+    return record;
+}
+
+static void say_answer(uint8_t refusal)
+{
+    if (refusal == 0)
         printf("good");
     else
-        printf("refused %u", answer);
+        printf("refused %u", refusal);
 }
 
 // Where a row gives no counts, there is room for any record.
 static void reads(const struct row *row)
 {
-    struct lists lists = lend_lists(row->counts.losses > 0 ? row->counts : any_record);
-    struct header header;
+    struct lists lists = lend_lists(row->counts[LOSSES] > 0 ? row->counts : any_record);
     printf("%s: ", row->name);
-    say_answer(read_record(lend_record(row->record, row->zeros), &lists, &header));
+    say_answer(read_bytes(lend_record(row), &lists).refusal);
+}
+
+static struct bytes lend_space(size_t count)
+{
+    return (struct bytes){lend("the space for the record", 1, count), count};
 }
 
 // Reads, and writes again from as many entries as the header says.
 static void writes_again(const struct row *row)
 {
     struct lists lists = lend_lists(any_record);
-    struct header header;
-    struct bytes out;
-    uint8_t answer = read_record(lend_record(row->record, row->zeros), &lists, &header);
-    if (answer == 0) {
-        lists.counts = counts_of(header);
-        answer = write_record(header, &lists, SPACE, &out);
-    }
+    struct bytes space = lend_space(SPACE);
+    struct ricecrock_header header = read_bytes(lend_record(row), &lists);
+    lists = used_of(&lists, header);
+    struct ricecrock_length written = write_lists(&lists, space);
     printf("%s is written again as", row->name);
-    if (answer == 0)
-        say_bytes(out.start, out.count);
+    if (header.refusal == 0 && written.refusal == 0)
+        say_bytes(space.start, written.length);
     else
-        printf(" refused %u", answer);
+        printf(" refused %u", header.refusal != 0 ? header.refusal : written.refusal);
 }
 
 // The change of the first edit, which the record writes as this number.
 static void reads_change(const struct row *row)
 {
     struct lists lists = lend_lists(any_record);
-    struct header header;
-    read_record(lend_record(row->record, row->zeros), &lists, &header);
+    read_bytes(lend_record(row), &lists);
     printf("number ");
     say_number(row->value);
     printf(" is read as change ");
-    say_number(lists.changes[0]);
+    say_number(*(int16_t *)lists.entries[CHANGES]);
 }
 
-static struct lists lend_zeros(struct counts counts)
+static struct lists lend_zeros(const size_t counts[LIST_COUNT])
 {
     struct lists lists = lend_lists(counts);
-    memset(lists.losses, 0, counts.losses * sizeof *lists.losses);
-    memset(lists.seats, 0, counts.seats * sizeof *lists.seats);
-    memset(lists.times, 0, counts.times * sizeof *lists.times);
-    memset(lists.cells, 0, counts.cells * sizeof *lists.cells);
-    memset(lists.changes, 0, counts.changes * sizeof *lists.changes);
+    for (int list = 0; list < LIST_COUNT; list++)
+        memset(lists.entries[list], 0, counts[list] * list_kinds[list].width);
     return lists;
 }
 
@@ -91,28 +95,30 @@ static struct lists lend_zeros(struct counts counts)
 static void writes(const struct row *row)
 {
     struct lists lists = lend_zeros(row->counts);
-    struct bytes out;
+    lists.seats = 2;
+    lists.rounds = 1;
     printf("%s: ", row->name);
-    say_answer(write_record((struct header){2, 0, 1, 1}, &lists, row->space, &out));
+    say_answer(write_lists(&lists, lend_space(row->space)).refusal);
 }
 
 // The bytes of an edit's cell and change, from a record of two seats that has only this edit.
 static struct bytes write_edit(uint32_t cell, int16_t change)
 {
-    struct header header = {2, 0, 0, 1};
-    struct lists lists = lend_zeros(counts_of(header));
-    struct bytes out;
-    lists.cells[0] = cell;
-    lists.changes[0] = change;
-    if (write_record(header, &lists, SPACE, &out) != 0 || out.count < BEFORE_CELL)
-        return (struct bytes){out.start, 0};
-    return (struct bytes){out.start + BEFORE_CELL, out.count - BEFORE_CELL};
+    struct lists lists = lend_zeros((size_t[LIST_COUNT]){0, 1, 1, 1, 1});
+    struct bytes space = lend_space(SPACE);
+    lists.seats = 2;
+    put_entry(&lists, CELLS, 0, cell);
+    put_entry(&lists, CHANGES, 0, change);
+    size_t length = write_lists(&lists, space).length;
+    if (length < BEFORE_CELL)
+        return (struct bytes){space.start, 0};
+    return (struct bytes){space.start + BEFORE_CELL, length - BEFORE_CELL};
 }
 
 // A number as a cell, which a change of one byte follows.
 static void writes_number(const struct row *row)
 {
-    struct bytes edit = write_edit(row->value, 0);
+    struct bytes edit = write_edit((uint32_t)row->value, 0);
     printf("number ");
     say_number(row->value);
     printf(" is written as");
@@ -122,7 +128,7 @@ static void writes_number(const struct row *row)
 // A change after a cell of one byte; its groups of seven bits are put together again.
 static void writes_change(const struct row *row)
 {
-    struct bytes edit = write_edit(0, row->value);
+    struct bytes edit = write_edit(0, (int16_t)row->value);
     int32_t mapped = 0;
     for (size_t i = edit.count; i-- > 1;)
         mapped = mapped * 128 + edit.start[i] % 128;

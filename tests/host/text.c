@@ -1,28 +1,42 @@
 // Bytes and numbers as text.
 #include "host.h"
 
-#include <ctype.h>
 #include <stdio.h>
-#include <string.h>
 
-static unsigned digit(char letter)
+int hex_digit(char letter)
 {
-    return isdigit((unsigned char)letter) ? letter - '0' : toupper((unsigned char)letter) - 'A' + 10;
+    if (letter >= '0' && letter <= '9')
+        return letter - '0';
+    if (letter >= 'a' && letter <= 'f')
+        return letter - 'a' + 10;
+    if (letter >= 'A' && letter <= 'F')
+        return letter - 'A' + 10;
+    return -1;
 }
 
-struct bytes lend_record(const char *digits, size_t zeros)
+size_t hex_bytes(const char *text, size_t length, uint8_t *out, size_t room)
 {
-    size_t written = 0;
-    for (const char *at = digits; *at; at++)
-        written += isxdigit((unsigned char)*at) != 0;
-    struct bytes record = {.count = written / 2 + zeros};
-    record.start = lend("the record", 1, record.count);
-    memset(record.start, 0, record.count);
-    for (size_t i = 0; i < written / 2; i++, digits += 2) {
-        digits += strspn(digits, " ");
-        record.start[i] = digit(digits[0]) * 16 + digit(digits[1]);
+    size_t count = 0;
+    int first = -1;
+    for (const char *at = text; at < text + length && count < room; at++) {
+        int digit = hex_digit(*at);
+        if (digit >= 0 && first >= 0) {
+            out[count++] = (uint8_t)(first * 16 + digit);
+            first = -1;
+        } else if (digit >= 0) {
+            first = digit;
+        }
     }
-    return record;
+    return count;
+}
+
+void say_hex(const uint8_t *bytes, size_t count)
+{
+    static const char digits[] = "0123456789abcdef";
+    for (size_t i = 0; i < count; i++) {
+        putchar(digits[bytes[i] / 16]);
+        putchar(digits[bytes[i] % 16]);
+    }
 }
 
 void say_bytes(const uint8_t *bytes, size_t count)

@@ -25,6 +25,13 @@ pub fn read(line: &[u8], most: usize, bytes: &mut Vec<u8>) {
     }
 }
 
+/// The bytes of a text that is nothing but pairs of digits.
+pub fn pairs(text: &str) -> Option<Vec<u8>> {
+    let halves: Option<Vec<u8>> = text.bytes().map(half).collect();
+    let halves = halves.filter(|halves| halves.len() % 2 == 0)?;
+    Some(halves.chunks(2).map(|pair| pair[0] << 4 | pair[1]).collect())
+}
+
 fn half(digit: u8) -> Option<u8> {
     match digit {
         b'0'..=b'9' => Some(digit - b'0'),
@@ -61,6 +68,13 @@ mod tests {
         assert_eq!(bytes_of("f"), []);
         assert_eq!(bytes_of(" 0 30\t1-fF\r"), [3, 1, 0xFF]);
         assert_eq!(bytes_of("03 01 0"), [3, 1]);
+    }
+
+    #[test]
+    fn pairs_are_digits_alone() {
+        assert_eq!(pairs("0aF9"), Some(vec![0x0A, 0xF9]));
+        assert_eq!(pairs("0aF"), None);
+        assert_eq!(pairs("0a F9"), None);
     }
 
     #[test]

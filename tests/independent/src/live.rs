@@ -3,10 +3,9 @@
 mod alter;
 mod calls;
 mod checksum;
-mod questions;
 mod table;
 
-pub use table::{Table, EDIT_ENTRIES, LOSS_ENTRIES};
+pub use table::Table;
 
 #[cfg(test)]
 mod tests;

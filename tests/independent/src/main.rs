@@ -2,6 +2,7 @@
 //! of document 01; FORMATS.md describes its streams.
 
 mod change;
+mod checksum;
 mod construction;
 mod examples;
 mod hex;
@@ -10,6 +11,7 @@ mod make;
 mod number;
 mod page;
 mod place;
+mod questions;
 mod random;
 mod record;
 mod refusal;
@@ -18,14 +20,14 @@ mod seats;
 mod stream;
 mod views;
 
-use make::{edges, records, scripts};
+use make::{calls, edges, records, scripts};
 use random::Random;
 use std::io::{stdin, stdout, BufWriter, Read, Result, Write};
 use std::process::exit;
 use stream::records as record_stream;
 use stream::scripts as script_stream;
 
-const USAGE: &str = "usage: independent page | pages | play | edges
+const USAGE: &str = "usage: independent page | pages | play | edges | calls
        independent make SEED COUNT
        independent scripts SEED COUNT";
 
@@ -41,6 +43,7 @@ fn main() -> Result<()> {
         ["pages"] => record_stream::print_pages(input, output),
         ["play"] => script_stream::print_answers(input, output),
         ["edges"] => record_stream::write(output, edges::records().into_iter()),
+        ["calls"] => output.write_all(calls::stream().as_bytes()),
         ["make", seed, count] => {
             record_stream::write(output, several(records::record, seed, count))
         }

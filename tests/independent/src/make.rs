@@ -1,17 +1,21 @@
-//! Generators of records and of live scripts.
+//! Makers of records and of scripts.
 
-mod alterations;
-mod asking;
 mod bytes;
-mod composer;
+pub mod calls;
+mod carrying;
 mod draft;
 pub mod edges;
 mod edits;
 mod faults;
 pub mod good;
+mod list_faults;
 mod losses;
 pub mod records;
 pub mod scripts;
+
+/// Added to a good number, these show whether a number is cut to 8 or 16 bits.
+const PAST_A_BYTE: u32 = 1 << 8;
+const PAST_TWO_BYTES: u32 = 1 << 16;
 
 /// The bytes of a record, and a few plain words on what kind they are.
 #[derive(Clone, Debug)]

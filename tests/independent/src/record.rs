@@ -1,5 +1,6 @@
 //! The record of a shared farm: its header, its losses, its edits.
 
+pub mod lent;
 pub mod read;
 pub mod write;
 
@@ -11,6 +12,9 @@ pub const FEWEST_SEATS: u32 = 2;
 pub const MOST_SEATS: u32 = 7;
 pub const MOST_ROUNDS: u32 = 127;
 pub const MOST_EDITS: u32 = 512;
+/// The loss sets of the longest record: 7 for each of 127 rounds.
+pub const LOSS_ENTRIES: usize = 889;
+pub const EDIT_ENTRIES: usize = 512;
 pub const HIGHEST_CELL: u32 = 65_535;
 pub const HIGHEST_MAPPED_CHANGE: u32 = 65_535;
 pub const LOWEST_CHANGE: i32 = -32_768;

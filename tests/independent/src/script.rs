@@ -1,7 +1,11 @@
-//! Live scripts: calls on one table, played one after the other.
+//! Scripts: calls on the three carriers of a record, played one after the other.
 
 pub mod call;
+pub mod carriers;
+pub mod parse;
 pub mod play;
+#[cfg(test)]
+pub mod possible;
 mod text;
 
 use call::Call;

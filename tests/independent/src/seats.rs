@@ -39,6 +39,11 @@ impl SeatSet {
         self.len() == 0
     }
 
+    /// The set as a number, bit q for seat q.
+    pub fn number(self) -> u8 {
+        self.0
+    }
+
     /// The seats in rising order: each time the lowest bit is taken out.
     pub fn iter(self) -> impl Iterator<Item = Seat> {
         let mut left = self.0;
@@ -71,6 +76,7 @@ mod tests {
         assert_eq!(set([6, 0, 3]).iter().collect::<Vec<Seat>>(), [0, 3, 6]);
         assert_eq!(SeatSet::everyone(7), set([0, 1, 2, 3, 4, 5, 6]));
         assert!(SeatSet::default().is_empty());
+        assert_eq!(set([6, 0, 3]).number(), 0b100_1001);
     }
 
     #[test]

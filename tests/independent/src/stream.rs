@@ -8,22 +8,24 @@ use std::io::{BufRead, Result, Write};
 const COMMENT: u8 = b'#';
 
 /// Copies each comment line and answers every other line. Only one line is held
-/// at a time. What follows the last newline is not looked at.
+/// at a time. A last line without a newline is a line like any other.
 fn answer_lines<Output: Write>(
     mut input: impl BufRead,
     output: &mut Output,
     mut answer: impl FnMut(&[u8], &mut Output) -> Result<()>,
 ) -> Result<()> {
     let mut line = Vec::new();
-    loop {
-        line.clear();
-        input.read_until(b'\n', &mut line)?;
-        match (line.first(), line.split_last()) {
-            (Some(&COMMENT), Some((b'\n', _))) => output.write_all(&line)?,
-            (_, Some((b'\n', text))) => answer(text, output)?,
-            _ => return Ok(()),
+    while input.read_until(b'\n', &mut line)? > 0 {
+        let text = line.strip_suffix(b"\n").unwrap_or(&line);
+        if text.first() == Some(&COMMENT) {
+            output.write_all(text)?;
+            output.write_all(b"\n")?;
+        } else {
+            answer(text, output)?;
         }
+        line.clear();
     }
+    Ok(())
 }
 
 fn write_comment(output: &mut impl Write, index: u64, shape: &str) -> Result<()> {
@@ -47,10 +49,16 @@ mod tests {
     }
 
     #[test]
-    fn what_follows_the_last_newline_is_not_looked_at() {
+    fn a_last_line_without_a_newline_is_a_line() {
         assert_eq!(answered(""), "");
-        assert_eq!(answered("abc"), "");
-        assert_eq!(answered("a\n# comment"), "1\n");
+        assert_eq!(answered("abc"), "3\n");
+        assert_eq!(answered("a\n# comment"), "1\n# comment\n");
+        assert_eq!(answered("a\n\n"), "1\n0\n");
+    }
+
+    #[test]
+    fn a_carriage_return_belongs_to_its_line() {
+        assert_eq!(answered("# one\r\nab\r\n"), "# one\r\n3\n");
     }
 
     /// The blocks of FORMATS.md: a stream and its output, for records and for scripts.

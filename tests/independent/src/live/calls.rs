@@ -2,19 +2,20 @@
 
 use super::Table;
 use crate::place::{Seat, Time};
+use crate::record::{is_good_loss_set, Edit};
 use crate::record::{
-    is_good_loss_set, Edit, FEWEST_SEATS, HIGHEST_CELL, MOST_EDITS, MOST_ROUNDS, MOST_SEATS,
+    FEWEST_SEATS, HIGHEST_CELL, HIGHEST_CHANGE, LOWEST_CHANGE, MOST_EDITS, MOST_ROUNDS, MOST_SEATS,
 };
 use crate::refusal::Refusal;
 
 impl Table {
     /// Opening goes into a table in any state, and only 3 can refuse it.
-    pub fn open(&mut self, seats: u8, bound: u8) -> Result<(), Refusal> {
-        if !(FEWEST_SEATS..=MOST_SEATS).contains(&seats.into()) || bound >= seats {
+    pub fn open(&mut self, seats: u32, bound: u32) -> Result<(), Refusal> {
+        if !(FEWEST_SEATS..=MOST_SEATS).contains(&seats) || bound >= seats {
             return Err(Refusal::Range);
         }
-        self.seats = seats;
-        self.bound = bound;
+        self.seats = seats as u8;
+        self.bound = bound as u8;
         self.rounds = 0;
         self.edits = 0;
         Ok(())
@@ -41,29 +42,29 @@ impl Table {
     }
 
     /// An edit: 19, 3, 12, 5. It is placed at the present time.
-    pub fn edit(&mut self, seat: u8, cell: u32, change: i16) -> Result<(), Refusal> {
+    pub fn edit(&mut self, seat: u32, cell: u32, change: i32) -> Result<(), Refusal> {
         let record = self.record()?;
-        if Seat::from(seat) >= record.seats || cell > HIGHEST_CELL {
+        let change_good = (LOWEST_CHANGE..=HIGHEST_CHANGE).contains(&change);
+        if seat >= record.seats as u32 || cell > HIGHEST_CELL || !change_good {
             return Err(Refusal::Range);
         }
         if u32::from(self.edits) == MOST_EDITS {
             return Err(Refusal::EditsFull);
         }
-        let edit =
-            Edit { seat: seat.into(), time: Time::from(self.rounds), cell, change: change.into() };
+        let edit = Edit { seat: seat as Seat, time: Time::from(self.rounds), cell, change };
         if record.edits.last().map_or(false, |before| !edit.is_after(before)) {
             return Err(Refusal::Order);
         }
-        self.append_edit(seat, cell, change);
+        self.append_edit(&edit);
         Ok(())
     }
 
-    fn append_edit(&mut self, seat: u8, cell: u32, change: i16) {
+    fn append_edit(&mut self, edit: &Edit) {
         let index = usize::from(self.edits);
-        self.edit_seats[index] = seat;
-        self.edit_times[index] = self.rounds;
-        self.edit_cells[index] = cell;
-        self.edit_changes[index] = change;
+        self.edit_seats[index] = edit.seat as u8;
+        self.edit_times[index] = edit.time as u16;
+        self.edit_cells[index] = edit.cell;
+        self.edit_changes[index] = edit.change as i16;
         self.edits += 1;
     }
 }

@@ -1,15 +1,14 @@
 //! A checksum over the whole table, used entries and unused ones alike.
 
 use super::Table;
+use crate::checksum::checksum;
 
 impl Table {
-    /// 32-bit FNV-1a over all numbers of the table in little-endian bytes.
     pub fn checksum(&self) -> u32 {
-        self.bytes()
-            .iter()
-            .fold(0x811C_9DC5, |sum: u32, &byte| (sum ^ u32::from(byte)).wrapping_mul(0x0100_0193))
+        checksum(&self.bytes())
     }
 
+    /// All numbers of the table in little-endian bytes.
     fn bytes(&self) -> Vec<u8> {
         let mut bytes = vec![self.seats, self.bound];
         bytes.extend(self.rounds.to_le_bytes());

@@ -1,11 +1,8 @@
 //! The host's table: a plain struct whose used part is a record.
 
 use crate::record::write::Lists;
-use crate::record::Record;
+use crate::record::{Record, EDIT_ENTRIES, LOSS_ENTRIES};
 use crate::refusal::Refusal;
-
-pub const LOSS_ENTRIES: usize = 889;
-pub const EDIT_ENTRIES: usize = 512;
 
 #[derive(Clone, PartialEq, Eq, Debug)]
 pub struct Table {
@@ -45,9 +42,15 @@ impl Table {
         self.lists().judge().map_err(|_| Refusal::Table)
     }
 
+    /// Writes the record so far: 19, then 7.
+    pub fn write(&self, room: &mut [u8]) -> Result<usize, Refusal> {
+        self.record()?;
+        self.lists().write(room)
+    }
+
     /// The used part as lists. Where a count points past the table, the lists
     /// end with the table.
-    pub fn lists(&self) -> Lists {
+    fn lists(&self) -> Lists {
         let losses = usize::from(self.seats) * usize::from(self.rounds);
         let edits = usize::from(self.edits);
         Lists {

@@ -2,9 +2,8 @@ use super::*;
 use crate::examples;
 use crate::record::read::read;
 use crate::refusal::Refusal;
-use crate::seats::SeatSet;
 
-fn opened(seats: u8, bound: u8) -> Table {
+fn opened(seats: u32, bound: u32) -> Table {
     let mut table = Table::never_opened();
     table.open(seats, bound).unwrap();
     table
@@ -31,27 +30,6 @@ fn the_printed_record_grows_live() {
 }
 
 #[test]
-fn p6_asked_live() {
-    let mut table = opened(3, 1);
-    table.edit(2, 5, -3).unwrap();
-    table.round(&[0, 0, 1]).unwrap();
-    table.round(&[0, 0, 0]).unwrap();
-    let mut numbers = [1_000; 4];
-    table.view(0, 2, &mut numbers).unwrap();
-    assert_eq!(numbers, [2, 1, 1, 1_000]);
-    table.core(0, 2, &mut numbers).unwrap();
-    assert_eq!(numbers, [1, 1, 0, 1_000]);
-    let mut marks = [200; 2];
-    table.marks(0, 2, &mut marks).unwrap();
-    assert_eq!(marks, [1, 200]);
-    table.marks(0, 1, &mut marks).unwrap();
-    assert_eq!(marks, [0, 200]);
-    assert_eq!(table.count(0, 2), Ok(1));
-    assert_eq!(table.is_loser(2), Ok(true));
-    assert_eq!(table.is_loser(1), Ok(false));
-}
-
-#[test]
 fn opening_writes_four_numbers_and_nothing_else() {
     let mut expected = Table::never_opened();
     expected.seats = 7;
@@ -63,7 +41,8 @@ fn opening_writes_four_numbers_and_nothing_else() {
 
 #[test]
 fn a_refused_opening_touches_nothing() {
-    for (seats, bound) in [(0, 0), (1, 0), (8, 0), (255, 0), (2, 2), (7, 255)] {
+    let numbers = [(0, 0), (1, 0), (8, 0), (255, 0), (258, 1), (65_538, 1), (2, 2), (7, 256)];
+    for (seats, bound) in numbers {
         let mut table = over_the_bound();
         assert_eq!(table.open(seats, bound), Err(Refusal::Range));
         assert_eq!(table, over_the_bound());
@@ -75,13 +54,6 @@ fn a_table_that_was_never_opened_gives_19_first() {
     let mut table = Table::never_opened();
     assert_eq!(table.round(&[]), Err(Refusal::Table));
     assert_eq!(table.edit(255, u32::MAX, 0), Err(Refusal::Table));
-    assert_eq!(table.view(255, 65_535, &mut []), Err(Refusal::Table));
-    assert_eq!(table.known(255, 0), Err(Refusal::Table));
-    assert_eq!(table.settled(255, 0).err(), Some(Refusal::Table));
-    assert_eq!(table.core(255, 0, &mut []), Err(Refusal::Table));
-    assert_eq!(table.marks(255, 0, &mut []), Err(Refusal::Table));
-    assert_eq!(table.count(255, 0), Err(Refusal::Table));
-    assert_eq!(table.is_loser(255), Err(Refusal::Table));
     assert_eq!(table.write(&mut []), Err(Refusal::Table));
     assert_eq!(table, Table::never_opened());
 }
@@ -114,7 +86,10 @@ fn an_edit_is_refused_by_3_then_12_then_5() {
     }
     let full = table.clone();
     assert_eq!(table.edit(2, 512, 0), Err(Refusal::Range));
+    assert_eq!(table.edit(256, 512, 0), Err(Refusal::Range));
     assert_eq!(table.edit(0, 65_536, 0), Err(Refusal::Range));
+    assert_eq!(table.edit(0, 512, 32_768), Err(Refusal::Range));
+    assert_eq!(table.edit(0, 512, -32_769), Err(Refusal::Range));
     assert_eq!(table.edit(0, 512, 0), Err(Refusal::EditsFull));
     assert_eq!(table, full);
 }
@@ -129,40 +104,6 @@ fn edits_rise_by_seat_then_cell_within_a_round() {
     table.edit(2, 0, 0).unwrap();
     table.round(&[0, 0, 0]).unwrap();
     table.edit(0, 0, 0).unwrap();
-}
-
-#[test]
-fn a_question_is_refused_by_8_then_7_then_9() {
-    let table = over_the_bound();
-    let short = &mut [0; 2][..];
-    let enough = &mut [0; 3][..];
-    assert_eq!(table.core(3, 1, short), Err(Refusal::Question));
-    assert_eq!(table.core(0, 2, short), Err(Refusal::Question));
-    assert_eq!(table.core(0, 1, short), Err(Refusal::Room));
-    assert_eq!(table.core(0, 1, enough), Err(Refusal::Over));
-    assert_eq!(table.core(1, 1, enough), Ok(()));
-    assert_eq!(table.view(0, 1, short), Err(Refusal::Room));
-    assert_eq!(table.settled(0, 1).err(), Some(Refusal::Over));
-    assert_eq!(table.count(0, 1), Err(Refusal::Over));
-    assert_eq!(table.is_loser(3), Err(Refusal::Question));
-}
-
-#[test]
-fn views_and_known_sets_never_give_9() {
-    let table = over_the_bound();
-    let mut numbers = [0; 3];
-    assert_eq!(table.view(0, 1, &mut numbers), Ok(()));
-    assert_eq!(numbers, [1, -1, -1]);
-    assert_eq!(table.known(0, 1), Ok([1, 2].into_iter().collect()));
-}
-
-#[test]
-fn marks_take_7_before_9() {
-    let mut table = over_the_bound();
-    assert_eq!(table.marks(0, 1, &mut []), Err(Refusal::Over));
-    table.edit(0, 0, 0).unwrap();
-    assert_eq!(table.marks(0, 1, &mut []), Err(Refusal::Room));
-    assert_eq!(table.marks(3, 1, &mut []), Err(Refusal::Question));
 }
 
 /// Each number of the used part, one past its limit.
@@ -189,7 +130,7 @@ fn an_altered_table_gives_19_until_it_is_repaired() {
     for (field, index, value) in alterations {
         let mut altered = table.clone();
         altered.alter(field, index, value);
-        assert_eq!(altered.known(0, 0), Err(Refusal::Table), "{field} {index} {value}");
+        assert_eq!(altered.record(), Err(Refusal::Table), "{field} {index} {value}");
     }
 }
 
@@ -222,7 +163,7 @@ fn a_table_never_opened_that_passes_19_answers() {
         table.alter(field, 0, value);
     }
     assert_eq!(table, opened(2, 0));
-    assert_eq!(table.known(1, 0), Ok(SeatSet::default()));
+    assert_eq!(table.record(), read(&[2, 0, 0, 0]));
 }
 
 /// The checksum of 6,392 bytes A5, worked out by another program.

@@ -10,7 +10,7 @@ use crate::place::{Seat, Time};
 use crate::refusal::Refusal;
 
 /// What a host hands in to be written. E is the length of the seat list.
-#[derive(Clone, Debug)]
+#[derive(Clone, Debug, Default, PartialEq, Eq)]
 pub struct Lists {
     pub seats: u32,
     pub bound: u32,
@@ -23,6 +23,19 @@ pub struct Lists {
 }
 
 impl Lists {
+    pub fn of(record: &Record) -> Lists {
+        Lists {
+            seats: record.seats as u32,
+            bound: record.bound as u32,
+            rounds: record.rounds as u32,
+            losses: record.losses.clone(),
+            edit_seats: record.edits.iter().map(|edit| edit.seat as u32).collect(),
+            edit_times: record.edits.iter().map(|edit| edit.time as u32).collect(),
+            edit_cells: record.edits.iter().map(|edit| edit.cell).collect(),
+            edit_changes: record.edits.iter().map(|edit| edit.change).collect(),
+        }
+    }
+
     /// Writes the record to the front of the room and hands back its length.
     pub fn write(&self, room: &mut [u8]) -> Result<usize, Refusal> {
         let bytes = self.judge()?.bytes();

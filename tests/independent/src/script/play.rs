@@ -1,62 +1,77 @@
 //! Playing a script: one line for each call.
 
-use super::call::Call;
-use crate::construction::Settled;
+mod answers;
+
+use super::call::{BytesCall, Call, ListsCall, TableCall};
+use super::carriers::Carriers;
 use crate::hex;
 use crate::live::Table;
-use crate::place::Time;
+use crate::record::lent::Lent;
+use crate::record::read::read;
+use crate::record::write::Lists;
+use crate::record::Record;
 use crate::refusal::Refusal;
-use crate::seats::SeatSet;
-
-/// The numbers that lent buffers hold before a call, so that untouched places show.
-const LENT_NUMBER: Time = 1_000;
-const LENT_BYTE: u8 = 200;
 
 type Words = Vec<String>;
 
-/// Makes one call on the table; gives the line that it prints, without its newline.
-pub fn line(table: &mut Table, call: &Call) -> String {
-    let mut words = vec![call.name().to_string()];
-    words.extend(match answer(table, call) {
+/// Makes one call; gives the line that it prints, without its newline.
+pub fn line(carriers: &mut Carriers, call: &Call) -> String {
+    let mut words = vec![call.name()];
+    words.extend(match answer(carriers, call) {
         Ok(answer) => answer,
         Err(refusal) => vec!["refused".to_string(), refusal.number().to_string()],
     });
     words.join(" ")
 }
 
-fn answer(table: &mut Table, call: &Call) -> Result<Words, Refusal> {
+fn answer(carriers: &mut Carriers, call: &Call) -> Result<Words, Refusal> {
     match call {
         Call::Fresh => {
-            *table = Table::never_opened();
+            *carriers = Carriers::fresh();
             Ok(done(()))
         }
-        Call::Table => Ok(vec![format!("{:08x}", table.checksum())]),
-        Call::Open { seats, bound } => table.open(*seats, *bound).map(done),
-        Call::Round { sets } => table.round(sets).map(done),
-        Call::Edit { seat, cell, change } => table.edit(*seat, *cell, *change).map(done),
-        Call::Alter { field, index, value } => {
+        Call::Put(part) => {
+            carriers.put(part);
+            Ok(done(()))
+        }
+        Call::Bytes(call) => of_bytes(&carriers.bytes, call),
+        Call::Lists(call) => of_lists(&carriers.lists, call),
+        Call::Table(call) => of_table(&mut carriers.table, call),
+        Call::Ask(carrier, question) => answers::answer(&carriers.record(*carrier)?, question),
+    }
+}
+
+fn of_bytes(bytes: &[u8], call: &BytesCall) -> Result<Words, Refusal> {
+    match call {
+        BytesCall::Check => read(bytes).map(|record| header(&record)),
+        BytesCall::Read(rooms) => {
+            let mut lent = Lent::with_rooms(*rooms);
+            let mut answer = header(&lent.read(bytes)?);
+            answer.push(sum(lent.checksum()));
+            Ok(answer)
+        }
+    }
+}
+
+fn of_lists(lists: &Lists, call: &ListsCall) -> Result<Words, Refusal> {
+    match call {
+        ListsCall::Judge => lists.judge().map(|record| header(&record)),
+        ListsCall::Length => lists.judge().map(|record| words([record.bytes().len()])),
+        ListsCall::Write { room } => written(*room, |bytes| lists.write(bytes)),
+    }
+}
+
+fn of_table(table: &mut Table, call: &TableCall) -> Result<Words, Refusal> {
+    match call {
+        TableCall::Open { seats, bound } => table.open(*seats, *bound).map(done),
+        TableCall::Round(sets) => table.round(sets).map(done),
+        TableCall::Edit { seat, cell, change } => table.edit(*seat, *cell, *change).map(done),
+        TableCall::Record { room } => written(*room, |bytes| table.write(bytes)),
+        TableCall::Alter { field, index, value } => {
             table.alter(*field, *index, *value);
             Ok(done(()))
         }
-        Call::View { seat, time, room } => {
-            lend_numbers(*room, |numbers| table.view(*seat, *time, numbers))
-        }
-        Call::Core { seat, time, room } => {
-            lend_numbers(*room, |numbers| table.core(*seat, *time, numbers))
-        }
-        Call::Marks { seat, time, room } => {
-            let mut marks = vec![LENT_BYTE; (*room).into()];
-            table.marks(*seat, *time, &mut marks)?;
-            Ok(words(marks))
-        }
-        Call::Known { seat, time } => table.known(*seat, *time).map(set),
-        Call::Settled { seat, time } => table.settled(*seat, *time).map(settled),
-        Call::Count { seat, time } => Ok(words([table.count(*seat, *time)?])),
-        Call::Loser { seat } => {
-            let loser = table.is_loser(*seat)?;
-            Ok(words([if loser { "loser" } else { "clean" }]))
-        }
-        Call::Record { room } => record(table, (*room).into()),
+        TableCall::Sum => Ok(vec![sum(table.checksum())]),
     }
 }
 
@@ -64,34 +79,23 @@ fn done(_: ()) -> Words {
     words(["done"])
 }
 
-fn lend_numbers(
+/// n, t, R, E.
+fn header(record: &Record) -> Words {
+    record.numbers()[..4].iter().map(u32::to_string).collect()
+}
+
+fn sum(sum: u32) -> String {
+    format!("{sum:08x}")
+}
+
+/// The length of a record that is written to so much room, and its bytes.
+fn written(
     room: u16,
-    fill: impl FnOnce(&mut [Time]) -> Result<(), Refusal>,
+    write: impl FnOnce(&mut [u8]) -> Result<usize, Refusal>,
 ) -> Result<Words, Refusal> {
-    let mut numbers: Vec<Time> = (0..Time::from(room)).map(|index| LENT_NUMBER + index).collect();
-    fill(&mut numbers)?;
-    Ok(words(numbers))
-}
-
-fn record(table: &Table, room: usize) -> Result<Words, Refusal> {
-    let mut bytes = vec![0; room];
-    let length = table.write(&mut bytes)?;
+    let mut bytes = vec![0; room.into()];
+    let length = write(&mut bytes)?;
     Ok(vec![length.to_string(), hex::text(&bytes[..length])])
-}
-
-fn settled(settled: Settled) -> Words {
-    let mut answer = words([settled.critical.to_string(), settled.steps.to_string()]);
-    answer.extend(set(settled.kept));
-    answer
-}
-
-/// The seats of a set in rising order, or `none`.
-fn set(seats: SeatSet) -> Words {
-    if seats.is_empty() {
-        words(["none"])
-    } else {
-        words(seats.iter())
-    }
 }
 
 fn words<Word: ToString>(entries: impl IntoIterator<Item = Word>) -> Words {

@@ -62,6 +62,12 @@ mod tests {
     }
 
     #[test]
+    fn a_last_line_without_a_newline_is_a_record() {
+        let stream = "\n03 01 02 01  00 00 01  00 00 00  02 00 05 05";
+        assert_eq!(pages(stream), format!("refused 1\n{PRINTED_PAGE}"));
+    }
+
+    #[test]
     fn the_first_4991_bytes_of_a_line_are_taken() {
         let longest = good::longest(&mut Random::new(1)).bytes();
         let stream = written([made("longest", &longest)]);

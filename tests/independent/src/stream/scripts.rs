@@ -1,16 +1,16 @@
 //! The script stream: a call on a line.
 
 use super::{answer_lines, write_comment};
-use crate::live::Table;
 use crate::script::call::Call;
+use crate::script::carriers::Carriers;
 use crate::script::{play, Script};
 use std::io::{BufRead, Result, Write};
 
-/// For each call its line. All calls go to one table.
+/// For each call its line. All calls go to the same carriers.
 pub fn print_answers(input: impl BufRead, output: &mut impl Write) -> Result<()> {
-    let mut table = Table::never_opened();
+    let mut carriers = Carriers::fresh();
     answer_lines(input, output, |line, output| match Call::parse(line) {
-        Some(call) => writeln!(output, "{}", play::line(&mut table, &call)),
+        Some(call) => writeln!(output, "{}", play::line(&mut carriers, &call)),
         None => writeln!(output, "unknown"),
     })
 }
@@ -37,53 +37,16 @@ mod tests {
         String::from_utf8(output).unwrap()
     }
 
-    /// The record of document 01's printed page, grown live.
     #[test]
-    fn the_printed_example() {
-        let stream = "\
-# 0 the printed record
-fresh
-open 3 1
-edit 2 5 -3
-round 0 0 1
-round 0 0 0
-view 0 1 4
-settled 0 2
-core 0 2 2
-loser 2
-record 14
-table
-";
-        let expected = "\
-# 0 the printed record
-fresh done
-open done
-edit done
-round done
-round done
-view 1 0 -1 1003
-settled 1 1 2
-core refused 7
-loser loser
-record 14 0301020100000100000002000505
-table 615395ef
-";
+    fn a_line_that_is_no_call_is_unknown_and_does_nothing() {
+        let stream = "bytes 02000000\nbytes 0\n\nbytes-check\r\nbytes-check\nclose";
+        let expected = "bytes done\nunknown\nunknown\nunknown\nbytes-check 2 0 0 0\nunknown\n";
         assert_eq!(answers(stream), expected);
     }
 
     #[test]
-    fn a_line_that_is_no_call_is_unknown() {
-        let stream = "close\nopen 3\n\nround\nopen 3 1\nround 0 0 0\nrounds 0 0 0\n";
-        let expected =
-            "unknown\nunknown\nunknown\nround refused 19\nopen done\nround done\nunknown\n";
-        assert_eq!(answers(stream), expected);
-    }
-
-    #[test]
-    fn the_table_is_never_opened_at_the_start_and_when_fresh() {
-        let stream = "table\nopen 2 1\nround 2 1\nfresh\ntable\n";
-        let expected = "table 2b23cf9d\nopen done\nround done\nfresh done\ntable 2b23cf9d\n";
-        assert_eq!(answers(stream), expected);
+    fn a_last_line_without_a_newline_is_a_call() {
+        assert_eq!(answers("# one\nfresh"), "# one\nfresh done\n");
     }
 
     /// Every line prints one line, so that an answer's place shows its call.
@@ -94,9 +57,9 @@ table 615395ef
         let mut expected = String::new();
         for (index, script) in made.iter().enumerate() {
             expected += &format!("# {index} {}\n", script.shape);
-            let table = &mut Table::never_opened();
+            let carriers = &mut Carriers::fresh();
             for call in &script.calls {
-                expected += &(play::line(table, call) + "\n");
+                expected += &(play::line(carriers, call) + "\n");
             }
         }
         let mut stream = Vec::new();

@@ -4,19 +4,6 @@ use crate::make::good;
 use crate::random::Random;
 use crate::record::read::read;
 
-fn lists(record: &Record) -> Lists {
-    Lists {
-        seats: record.seats as u32,
-        bound: record.bound as u32,
-        rounds: record.rounds as u32,
-        losses: record.losses.clone(),
-        edit_seats: record.edits.iter().map(|edit| edit.seat as u32).collect(),
-        edit_times: record.edits.iter().map(|edit| edit.time as u32).collect(),
-        edit_cells: record.edits.iter().map(|edit| edit.cell).collect(),
-        edit_changes: record.edits.iter().map(|edit| edit.change).collect(),
-    }
-}
-
 fn refusal(lists: &Lists) -> Option<Refusal> {
     lists.write(&mut [0; 5_000]).err()
 }
@@ -41,7 +28,7 @@ fn records_read_back_as_they_were_written() {
     for _ in 0..2_000 {
         let record = good::record(&mut random);
         let mut room = [0; 5_000];
-        let length = lists(&record).write(&mut room).unwrap();
+        let length = Lists::of(&record).write(&mut room).unwrap();
         assert_eq!(read(&room[..length]), Ok(record));
     }
 }
@@ -50,7 +37,7 @@ fn records_read_back_as_they_were_written() {
 fn bytes_past_the_record_stay() {
     let record = read(&examples::PRINTED).unwrap();
     let mut room = [9; 16];
-    assert_eq!(lists(&record).write(&mut room), Ok(14));
+    assert_eq!(Lists::of(&record).write(&mut room), Ok(14));
     assert_eq!(room[..14], examples::PRINTED);
     assert_eq!(room[14..], [9, 9]);
 }
@@ -59,7 +46,7 @@ fn bytes_past_the_record_stay() {
 fn a_refusal_leaves_the_room() {
     let record = read(&examples::PRINTED).unwrap();
     let mut room = [9; 13];
-    assert_eq!(lists(&record).write(&mut room), Err(Refusal::Room));
+    assert_eq!(Lists::of(&record).write(&mut room), Err(Refusal::Room));
     assert_eq!(room, [9; 13]);
 }
 

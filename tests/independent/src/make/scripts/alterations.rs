@@ -2,38 +2,40 @@
 //! good record, most are repaired again.
 
 use super::composer::Composer;
-use super::edits::{any_cell, any_change};
-use crate::live::{Table, EDIT_ENTRIES, LOSS_ENTRIES};
-use crate::script::call::Call;
+use crate::live::Table;
+use crate::make::edits::{any_cell, any_change};
+use crate::record::{EDIT_ENTRIES, LOSS_ENTRIES};
+use crate::script::call::TableCall;
 
 const FIELDS: u64 = 9;
 
 impl Composer<'_> {
     /// One number altered in any way; hands back the call that repairs it.
-    pub fn alter(&mut self) -> Call {
+    pub fn alter(&mut self) -> TableCall {
         let field = self.random.below(FIELDS) as u8;
         let index = self.any_index(field);
-        let repair = Call::Alter { field, index, value: number_at(&self.table, field, index) };
+        let repair =
+            TableCall::Alter { field, index, value: number_at(self.table(), field, index) };
         let value = self.any_value(field, index);
-        self.put(Call::Alter { field, index, value });
+        self.put_on_table(TableCall::Alter { field, index, value });
         repair
     }
 
     /// Brings back entries of an earlier time, or entries that were never used.
     pub fn reveal(&mut self) {
-        let (rounds, edits) = (self.table.rounds, self.table.edits);
+        let (rounds, edits) = (self.table().rounds, self.table().edits);
         self.open();
         let value = rounds.into();
-        self.put(Call::Alter { field: 2, index: 0, value });
+        self.put_on_table(TableCall::Alter { field: 2, index: 0, value });
         let value = edits.into();
-        self.put(Call::Alter { field: 3, index: 0, value });
+        self.put_on_table(TableCall::Alter { field: 3, index: 0, value });
     }
 
     /// A good table without any opening.
     pub fn open_by_hand(&mut self) {
         let seats = self.random.between(2, 7) as u32;
         for (field, value) in [(0, seats), (1, seats - 1), (2, 0), (3, 0)] {
-            self.put(Call::Alter { field, index: 0, value });
+            self.put_on_table(TableCall::Alter { field, index: 0, value });
         }
     }
 
@@ -42,7 +44,7 @@ impl Composer<'_> {
         let (used, entries) = match field {
             0..=3 => return 0,
             4 => (self.used_losses(), LOSS_ENTRIES),
-            _ => (self.table.edits.into(), EDIT_ENTRIES),
+            _ => (self.table().edits.into(), EDIT_ENTRIES),
         };
         let used = used.clamp(1, entries);
         let inside = self.random.index(used);
@@ -51,14 +53,14 @@ impl Composer<'_> {
     }
 
     fn used_losses(&self) -> usize {
-        usize::from(self.table.rounds) * usize::from(self.table.seats)
+        usize::from(self.table().rounds) * usize::from(self.table().seats)
     }
 
     /// Values in range and at or past the limit; some are cut to their width.
     fn any_value(&mut self, field: u8, index: u16) -> u32 {
-        let seats = u32::from(self.seats());
-        let rounds = u32::from(self.table.rounds);
-        let edits = u32::from(self.table.edits);
+        let seats = self.seats();
+        let rounds = u32::from(self.table().rounds);
+        let edits = u32::from(self.table().edits);
         match field {
             0 => self.random.pick(&[0, 1, 2, 3, 4, 5, 6, 7, 8, 255, 256 + seats]),
             1 => self.random.pick(&[0, 1, seats - 1, seats, 255, 256]),
@@ -81,7 +83,7 @@ impl Composer<'_> {
     }
 
     fn any_loss_set(&mut self, index: u16) -> u32 {
-        let sender = (index % u16::from(self.seats())) as u8;
+        let sender = u32::from(index) % self.seats();
         let good = self.good_set(sender, 300).into();
         let own = 1 << sender;
         self.random.pick(&[good, good, 0, own, 1 << self.seats(), 0x8000, 0x1_0000])
