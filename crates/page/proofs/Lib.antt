@@ -1,4 +1,3 @@
 pub mod CompleteLaws
-pub mod LineLaws
 pub mod PageLaws
 pub mod Promises

@@ -31,8 +31,10 @@ use Rattle.text.specs.Putting.{PutsWithin}
 use Rattle.lines.specs.Printing.{Prints}
 use Rattle.lines.specs.declared.printing.Printed.{Printed}
 use Rattle.lines.specs.declared.printing.Printed.the-variants.{Length, NoRoom}
-use Rattle.page.specs.Page.{Counting, linesOf, numbersOf, pageOf, recordPage}
-use Rattle.page.specs.Printing.{Holds, PrintsPage, countFrom, pageHeld, pageRoom}
+use Rattle.time_lines.specs.Places.{Counting, linesOf}
+use Rattle.page.specs.Page.{numbersOf, pageOf, recordPage}
+use Rattle.time_lines.specs.Printing.{countFrom}
+use Rattle.page.specs.Printing.{Holds, PrintsPage, pageHeld, pageRoom}
 
 -- ════ A record that was read into tables ════
 

@@ -1,7 +1,5 @@
 // The page of a record given as bytes, into a lent buffer with room for any page. A refusal for want of
 // room changes no byte, and bytes past the page stay.
-use crate::places::end_of;
-use crate::places::put_times;
 use construction::losers::losers_by;
 use farm::places::Time;
 use farm::refusals::number;
@@ -12,6 +10,8 @@ use lines::printing::refused_line;
 use reading::tables::read;
 use record::answers::Checked;
 use record::header::Header;
+use time_lines::places::end_of;
+use time_lines::places::put_times;
 use viewing::sizes::Sizes;
 ghost use Prim.Native.Nat.{_≤_};
 ghost use lib.ListN.{length};

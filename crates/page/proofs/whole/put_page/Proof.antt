@@ -9,7 +9,7 @@ use Rattle.lines.specs.Lines.{headerLine}
 use Rattle.text.specs.Putting.{PutsWithin}
 use Rattle.text.proofs.PutLaws.{within-then}
 use Rattle.page.specs.Page.{numbersOf}
-use Rattle.page.proofs.LineLaws.{printed-put}
+use Rattle.time_lines.proofs.LineLaws.{printed-put}
 use Rattle.page.proofs.whole.put_page.Statement.{statement}
 use Rattle.page.proofs.whole.put_page.Tie as tie
 

@@ -1,4 +1,4 @@
--- `page::places::put_times` meets its contract. The invariant of its loop: the lines of the times passed are put, those of each
+-- `time_lines::places::put_times` meets its contract. The invariant of its loop: the lines of the times passed are put, those of each
 -- time in its room. Assumes nothing.
 use mathlib.Core.Path.{_≡_, refl, _∙_}
 use Prim.Native.Nat.{suc, _*_, _-_, _≤_}
@@ -8,10 +8,10 @@ use lib.ListN.{length}
 use Rattle.viewing.specs.Counts.{farmFor}
 use Rattle.text.specs.Putting.{PutsWithin}
 use Rattle.text.proofs.PutLaws.{puts-nothing, within-then}
-use Rattle.page.specs.Page.{linesOf}
-use Rattle.page.specs.Printing.{countFrom}
-use Rattle.page.proofs.places.put_times.Statement.{statement}
-use Rattle.page.proofs.places.put_times.Tie as tie
+use Rattle.time_lines.specs.Places.{linesOf}
+use Rattle.time_lines.specs.Printing.{countFrom}
+use Rattle.time_lines.proofs.places.put_times.Statement.{statement}
+use Rattle.time_lines.proofs.places.put_times.Tie as tie
 
 abbrev Inv-loop : tie.InvT-loop
 Inv-loop losses editors times sizes losers out₀ at times-in-all end₀ time₀ out end time =

@@ -1,10 +1,10 @@
--- `page::places::put_line` meets its contract: the line of a place that was refused, or of its numbers, in room that was asked for.
+-- `time_lines::places::put_line` meets its contract: the line of a place that was refused, or of its numbers, in room that was asked for.
 -- Assumes nothing.
 use borrow.Author.Needs.{needs}
-use Rattle.page.specs.Printing.{lineGiven}
-use Rattle.page.proofs.LineLaws.{printed-put}
-use Rattle.page.proofs.places.put_line.Statement.{statement}
-use Rattle.page.proofs.places.put_line.Tie as tie
+use Rattle.time_lines.specs.Printing.{lineGiven}
+use Rattle.time_lines.proofs.LineLaws.{printed-put}
+use Rattle.time_lines.proofs.places.put_line.Statement.{statement}
+use Rattle.time_lines.proofs.places.put_line.Tie as tie
 
 holds-requires : tie.Need-holds-requires
 holds-requires c κs = search needs

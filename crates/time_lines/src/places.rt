@@ -19,8 +19,8 @@ ghost use Rattle.farm.specs.Sets.{bit};
 ghost use Rattle.viewing.specs.Counts.{farmFor};
 ghost use Rattle.text.specs.Putting.{PutsWithin};
 ghost use Rattle.lines.specs.Printing.{lineRoom};
-ghost use Rattle.page.specs.Page.{linesAt, linesOf};
-ghost use Rattle.page.specs.Printing.{Ready, countFrom, endIn, lineFrom, lineIn, timeRoom, timesRoom};
+ghost use Rattle.time_lines.specs.Places.{linesAt, linesOf};
+ghost use Rattle.time_lines.specs.Printing.{Ready, countFrom, endIn, lineFrom, lineIn, timeRoom, timesRoom};
 
 // Where a line ends that was printed; it is asked of no other.
 pub fn end_of(printed: Printed) -> usize

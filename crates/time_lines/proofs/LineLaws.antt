@@ -32,8 +32,8 @@ use Rattle.text.specs.Putting.{PutsWithin}
 use Rattle.lines.specs.Printing.{Prints, lineRoom}
 use Rattle.lines.specs.declared.printing.Printed.{Printed}
 use Rattle.lines.specs.declared.printing.Printed.the-variants.{Length}
-use Rattle.page.specs.Page.{lineOf, lineAt}
-use Rattle.page.specs.Printing.{countFrom, endIn, lineFrom, lineGiven, lineIn, placeOf}
+use Rattle.time_lines.specs.Places.{lineOf, lineAt}
+use Rattle.time_lines.specs.Printing.{countFrom, endIn, lineFrom, lineGiven, lineIn, placeOf}
 
 -- Where there is room, the line is put.
 pub printed-put : {text : Text} {at end : ℕ} {old new : List ℕ} {printed : Printed} → at + lineRoom ≤ length old

@@ -1,4 +1,4 @@
--- `page::places::put_seats` meets its contract. The invariant of its loop: the lines of the seats passed are put, each in its
+-- `time_lines::places::put_seats` meets its contract. The invariant of its loop: the lines of the seats passed are put, each in its
 -- room, and the place at hand is that of a seat with the known set at hand. Assumes nothing.
 use mathlib.Core.Path.{_≡_, refl, sym, _∙_}
 use mathlib.Core.Logic.{⊎-elim}
@@ -10,11 +10,11 @@ use Rattle.knowledge.specs.Farm.{seat}
 use Rattle.viewing.specs.Counts.{farmFor}
 use Rattle.text.specs.Putting.{PutsWithin}
 use Rattle.text.proofs.PutLaws.{puts-nothing, within-then}
-use Rattle.page.specs.Page.{linesAt}
-use Rattle.page.specs.Printing.{countFrom, placeOf}
-use Rattle.page.proofs.LineLaws.{Shared, shared-place, line-at}
-use Rattle.page.proofs.places.put_seats.Statement.{statement}
-use Rattle.page.proofs.places.put_seats.Tie as tie
+use Rattle.time_lines.specs.Places.{linesAt}
+use Rattle.time_lines.specs.Printing.{countFrom, placeOf}
+use Rattle.time_lines.proofs.LineLaws.{Shared, shared-place, line-at}
+use Rattle.time_lines.proofs.places.put_seats.Statement.{statement}
+use Rattle.time_lines.proofs.places.put_seats.Tie as tie
 
 abbrev Inv-loop : tie.InvT-loop
 Inv-loop losses editors times sizes losers time out₀ at seats sets place₀ shared₀ end₀ seat₀ out place shared end p =
