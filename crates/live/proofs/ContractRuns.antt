@@ -20,7 +20,7 @@ use Rattle.live.proofs.calls.add_round as add-round
 use Rattle.live.proofs.calls.add_edit as add-edit
 
 -- At every model, from any arguments: whatever the `ensures` allows as result and as parameters at exit has the property.
-abbrev Ensures : (T : Ended) → Contract T → ((κs : Lfts (T .signature .lifetimes)) → Args (T .signature) κs → Res (T .signature) κs → AtExit T κs → Type 0) → Type 2
+abbrev pub Ensures : (T : Ended) → Contract T → ((κs : Lfts (T .signature .lifetimes)) → Args (T .signature) κs → Res (T .signature) κs → AtExit T κs → Type 0) → Type 2
 Ensures T contract property =
     (M : Type 1) (𝓤 : URA M) (H : Heap 𝓤) (A : Atoms 𝓤) (mem : Memory → SProp 𝓤) (run : Routine → Fun 𝓤)
     (κs : Lfts (T .signature .lifetimes)) (a : Args (T .signature) κs) (g : contract M 𝓤 H A mem run κs a .ghost)
