@@ -1,34 +1,48 @@
 -- The three conditions hold.
 -- Assumes nothing.
-use Rattle.knowledge.proofs.Promises.{view-is-computed, known-of-a-place-is-computed, outcome-is-computed, core-is-computed, steps-are-counted}
-use Rattle.record.proofs.Promises.{refused-exactly-for-its-fault, lists-refused-exactly-for-their-fault, refused-writing-leaves-the-buffer, written-lists-read-back, read-record-is-written-again}
+use Rattle.record.proofs.Promises.{document-numbers-fit, written-lists-read-back, written-buffer-reads-back, written-buffer-keeps-the-rest, read-record-is-written-again}
 use Rattle.examples.proofs.Examples.{examples-hold}
-use Rattle.live.proofs.Promises.{table-refused-exactly-when-not-good, refused-call-leaves-the-table, run-keeps-the-record}
-use Rattle.live_questions.proofs.Promises.{good-table-answers-as-its-record, run-answers-as-the-record}
+use Rattle.live.proofs.Promises.{run-keeps-the-record}
+use Rattle.live_questions.proofs.Promises.{run-answers-as-the-record}
 use Rattle.conditions.specs.Conditions.{Conditions}
+use Rattle.conditions.proofs.OrderLaws.{order-gives-one-number}
+use Rattle.conditions.proofs.RecordRefusals.{bytes-refused-by-number, lists-refused-in-order, reading-refused-in-order, writing-refused-in-order, length-refused-in-order}
+use Rattle.conditions.proofs.TableRefusals.{tables-refused-by-number, writing-out-refused-in-order, calls-refused-in-order, accepted-is-good}
+use Rattle.conditions.proofs.QuestionRefusals.{questions-refused-in-order}
+use Rattle.conditions.proofs.AnswerLaws.{seen-by-the-rules, agreed-by-the-rules}
+use Rattle.conditions.proofs.Adopted.{any-good-table-answers, run-continues-a-good-table}
 use Rattle.conditions.proofs.Honest.{honest-seats-are-told-alike, seen-edits-are-agreed}
+use Rattle.conditions.proofs.EntryPoints.{entry-points}
 
 pub conditions : Conditions
 conditions = record {
   first = record {
-    bytes = refused-exactly-for-its-fault;
-    lists = lists-refused-exactly-for-their-fault;
-    tables = table-refused-exactly-when-not-good;
-    buffers-stay = refused-writing-leaves-the-buffer;
-    tables-stay = refused-call-leaves-the-table;
+    one-number = order-gives-one-number;
+    bytes = bytes-refused-by-number;
+    lists = lists-refused-in-order;
+    reading = reading-refused-in-order;
+    writing = writing-refused-in-order;
+    lengths = length-refused-in-order;
+    tables = tables-refused-by-number;
+    writing-out = writing-out-refused-in-order;
+    calls = calls-refused-in-order;
+    questions = questions-refused-in-order;
+    accepted = accepted-is-good;
   };
   second = record {
-    views = view-is-computed;
-    known = known-of-a-place-is-computed;
-    outcomes = outcome-is-computed;
-    cores = core-is-computed;
-    steps = steps-are-counted;
+    seen = seen-by-the-rules;
+    agreed = agreed-by-the-rules;
     examples = examples-hold;
     runs = run-keeps-the-record;
     run-answers = run-answers-as-the-record;
-    any-table = good-table-answers-as-its-record;
+    any-table = any-good-table-answers;
+    any-run = run-continues-a-good-table;
+    numbers-fit = document-numbers-fit;
     read-back = written-lists-read-back;
+    buffer-read-back = written-buffer-reads-back;
+    buffer-rest = written-buffer-keeps-the-rest;
     written-again = read-record-is-written-again;
   };
   third = record { alike = honest-seats-are-told-alike; in-time = seen-edits-are-agreed };
+  contracts = entry-points;
 }

@@ -1,104 +1,95 @@
--- Condition 3 of the answers: at a place of a good record the question comes through to the construction, whose outcomes agree.
+-- Condition 3: what the rules give honest seats agrees, and the rules give each of them something.
 -- Assumes nothing.
-use mathlib.Core.Path.{_≡_, refl, ap}
-use mathlib.Core.Bool.{Bool, true, false}
-use Prim.Native.Nat.{ℕ, _≤_, _<_}
-use native.Mathlib.Omega.{arith}
-use lib.ListN.{length}
-use borrow.Author.Tests.{le-leb, lt-ltb}
-use Rattle.farm.specs.Limits.{limits}
+use mathlib.Core.Path.{_≡_, refl, sym}
+use native.Mathlib.Nat.{le-trans}
+use lib.IntN.{negsuc}
+use borrow.Author.Tests.{ltb-true}
 use Rattle.farm.specs.declared.places.Seat.{Seat}
 use Rattle.farm.specs.declared.places.Time.{Time}
-use Rattle.farm.specs.declared.refusals.Refusal.the-variants.{NoRoom}
-use Rattle.farm.proofs.Cases.{and-intro}
-use Rattle.knowledge.specs.Farm.{Farm, place, IsSeat}
-use Rattle.knowledge.specs.Settled.{Settled, Outcome, overBound, settled, IsOutcome, outcomeOf}
-use Rattle.knowledge.specs.Promises.{BoundFits, Alike, InCore}
-use Rattle.knowledge.proofs.Promises.{outcome-is-computed, clean-seats-agree, clean-edits-arrive}
-use Rattle.record.specs.declared.edits.Edit.{Edit}
-use Rattle.record.specs.Good.{goodRecord}
-use Rattle.record.specs.Record.{Record, good}
-use Rattle.record.proofs.GoodLaws.{record-facts, header-facts}
-use Rattle.questions.specs.Question.{Lent, byValue, found, provided, fits, isPlace, ofOutcome, looking, farmOfRecord, inCore, settledIn, settledAsked, onRecord}
-use Rattle.conditions.specs.Honest.{ToldAlike, Honest-seats-are-told-alike, Seen-edits-are-agreed}
+use Rattle.farm.proofs.SetLaws.{size-mono}
+use Rattle.knowledge.specs.Farm.{Farm, Place, seat, time, place, IsSeat, losersBy}
+use Rattle.knowledge.specs.Views.{InView, itself, remembered, received}
+use Rattle.knowledge.specs.Settled.{Settled, Outcome, overBound, settled, IsOutcome, outcomeOf, hasPlace}
+use Rattle.knowledge.specs.Promises.{BoundFits, FewLosersBy, Alike as SameOutcome, InCore}
+use Rattle.knowledge.proofs.ViewLaws.{at-most-latest}
+use Rattle.knowledge.proofs.Promises.{loser-is-computed, outcome-is-computed, clean-seats-agree, clean-edits-arrive}
+use Rattle.record.specs.Record.{Record}
+use Rattle.questions.specs.Question.{farmOfRecord}
+use Rattle.telling.proofs.TimeLaws.{getD-times}
+use Rattle.conditions.specs.Rules.{InNumbers, Answer}
+use Rattle.conditions.specs.Answers.{IsPlace}
+use Rattle.conditions.specs.Honest.{WithinBound, Gets, Alike, Honest-seats-are-told-alike, Seen-edits-are-agreed}
+use Rattle.conditions.proofs.AnswerLaws.{answerOf, told-of, ruled-of}
 
--- ════ What a good record has ════
+-- ════ The premise ════
 
-bound-fits : (r : Record) → goodRecord limits r ≡ true → BoundFits (farmOfRecord r)
-bound-fits r g =
-    let f = header-facts limits (r .header) (record-facts limits r g .header) in
-    omega (arith, f .fewest, f .bound)
+few-losers : (r : Record) → WithinBound r → FewLosersBy (farmOfRecord r) (time (r .header .rounds))
+few-losers r w =
+    le-trans
+    (size-mono (r .header .seats) (losersBy (farmOfRecord r) (time (r .header .rounds))) (w .fewLosers .set) (λ q h b.
+    w .fewLosers .all (seat q) h (loser-is-computed (farmOfRecord r) (time (r .header .rounds)) (seat q) h .1 b)))
+    (w .fewLosers .few)
 
-is-outcome : (r : Record) → goodRecord limits r ≡ true → (p : Seat) (ℓ : Time) → IsSeat (farmOfRecord r) p
-    → IsOutcome (farmOfRecord r) p ℓ (outcomeOf (farmOfRecord r) p ℓ)
-is-outcome r g p ℓ hp = outcome-is-computed (farmOfRecord r) (bound-fits r g) p ℓ hp _ .1 refl
+bound-fits : (r : Record) → WithinBound r → BoundFits (farmOfRecord r)
+bound-fits r w = w .isGood .numbers .bound
 
--- ════ A question at a place of the record ════
+is-outcome : (r : Record) → WithinBound r → (p : Seat) (ℓ : Time) → IsSeat (farmOfRecord r) p → (o : Outcome) → outcomeOf (farmOfRecord r) p ℓ ≡ o
+    → IsOutcome (farmOfRecord r) p ℓ o
+is-outcome r w p ℓ hp o e = outcome-is-computed (farmOfRecord r) (bound-fits r w) p ℓ hp o .1 (sym e)
 
-is-place : (farm : Farm) (p : Seat) (ℓ : Time) → p .0 < farm .seats → ℓ .0 ≤ farm .rounds → isPlace farm p ℓ ≡ true
-unfolding isPlace
-is-place farm p ℓ hp h = and-intro _ _ (lt-ltb _ _ hp) (le-leb _ _ h)
+gets : (r : Record) → WithinBound r → (p : Seat) (ℓ : Time) → IsPlace r p ℓ → (s : Settled) → outcomeOf (farmOfRecord r) p ℓ ≡ settled s
+    → Gets r p ℓ (answerOf r s)
+gets r w p ℓ here s e = record {
+  ruled = ruled-of r (w .isGood) p ℓ here s (is-outcome r w p ℓ (here .0) (settled s) e);
+  told = told-of r (w .isGood) p ℓ here s e;
+}
 
--- 8 is not given, and what the construction settles is found where there is room.
-settles : (farm : Farm) (p : Seat) (ℓ : Time) (s : Settled) → p .0 < farm .seats → ℓ .0 ≤ farm .rounds → outcomeOf farm p ℓ ≡ settled s
-    → (lent : Lent) (need : ℕ) → settledIn lent need farm p ℓ ≡ provided (fits lent need) NoRoom (found s)
-unfolding settledIn provided ofOutcome
-settles farm p ℓ s hp h o lent need = rw (is-place farm p ℓ hp h, o)
+-- ════ Agreement ════
 
--- By value there is always room.
-told : (r : Record) (p : Seat) (ℓ : Time) (s : Settled) → IsSeat (farmOfRecord r) p → ℓ .0 ≤ r .header .rounds
-    → outcomeOf (farmOfRecord r) p ℓ ≡ settled s → settledAsked (good r) p ℓ ≡ found s
-unfolding onRecord provided fits
-told r p ℓ s hp h o = settles (farmOfRecord r) p ℓ s hp h o byValue 0
-
--- ════ Two seats whose outcomes are alike ════
-
-module _ (r : Record) (ℓ : Time) (p q : Seat) (hp : IsSeat (farmOfRecord r) p) (hq : IsSeat (farmOfRecord r) q) (h : ℓ .0 ≤ r .header .rounds) where
-  -- What is looked at in the core alone is the same, with the same room.
-  seen-alike : (A : Type 0) (look : Settled → A) (s u : Settled) → look s ≡ look u
-      → outcomeOf (farmOfRecord r) p ℓ ≡ settled s → outcomeOf (farmOfRecord r) q ℓ ≡ settled u → (lent : Lent) (need : ℕ)
-      → looking look (settledIn lent need (farmOfRecord r) p ℓ) ≡ looking look (settledIn lent need (farmOfRecord r) q ℓ)
-  unfolding looking provided
-  seen-alike A look s u e os ou lent need =
-      rw (settles (farmOfRecord r) p ℓ s hp h os lent need, settles (farmOfRecord r) q ℓ u hq h ou lent need) (same (fits lent need))
-    where
-      same : (b : Bool) → looking look (provided b NoRoom (found s)) ≡ looking look (provided b NoRoom (found u))
-      same true = ap found e
-      same false = refl
-
-  alike-told : (o u : Outcome) → outcomeOf (farmOfRecord r) p ℓ ≡ o → outcomeOf (farmOfRecord r) q ℓ ≡ u → Alike o u → ToldAlike r ℓ p q
-  unfolding looking settledIn onRecord
-  alike-told overBound u eo eu a = absurd a
-  alike-told (settled s) overBound eo eu a = absurd a
-  alike-told (settled s) (settled u) eo eu (critical, kept, core) = record {
-    first = s;
-    second = u;
-    firstTold = told r p ℓ s hp h eo;
-    secondTold = told r q ℓ u hq h eu;
-    critical = critical;
-    kept = kept;
-    core = λ lent. seen-alike _ _ s u (rw core) eo eu lent (r .header .seats);
-    marks = λ lent. seen-alike _ _ s u (rw core) eo eu lent (length (r .edits));
-    count = seen-alike _ _ s u (rw core) eo eu byValue 0;
-  }
+alike : (r : Record) → WithinBound r → (ℓ : Time) (p q : Seat) → IsPlace r p ℓ → IsPlace r q ℓ → (o u : Outcome)
+    → outcomeOf (farmOfRecord r) p ℓ ≡ o → outcomeOf (farmOfRecord r) q ℓ ≡ u → SameOutcome o u → Alike r ℓ p q
+unfolding answerOf
+alike r w ℓ p q hp hq overBound u eo eu a = absurd a
+alike r w ℓ p q hp hq (settled s) overBound eo eu a = absurd a
+alike r w ℓ p q hp hq (settled s) (settled u) eo eu (critical, kept, core) = record {
+  first = answerOf r s;
+  second = answerOf r u;
+  firstGets = gets r w p ℓ hp s eo;
+  secondGets = gets r w q ℓ hq u eu;
+  critical = critical;
+  kept = kept;
+  core = rw core;
+  marks = rw core;
+  count = rw core;
+}
 
 pub honest-seats-are-told-alike : Honest-seats-are-told-alike
 honest-seats-are-told-alike r w p q hp hq ℓ h =
-    alike-told r ℓ p q (hp .isSeat) (hq .isSeat) h _ _ refl refl
-    (clean-seats-agree (farmOfRecord r) (bound-fits r (w .isGood)) (w .fewLosers) ℓ h p q (hp .isSeat) (hq .isSeat) (hp .isClean) (hq .isClean)
-    (outcomeOf (farmOfRecord r) p ℓ) (outcomeOf (farmOfRecord r) q ℓ) (is-outcome r (w .isGood) p ℓ (hp .isSeat)) (is-outcome r (w .isGood) q ℓ (hq .isSeat)))
+    alike r w ℓ p q (hp .isSeat, h) (hq .isSeat, h) _ _ refl refl
+    (clean-seats-agree (farmOfRecord r) (bound-fits r w) (few-losers r w) ℓ h p q (hp .isSeat) (hq .isSeat) (hp .isClean) (hq .isClean)
+    (outcomeOf (farmOfRecord r) p ℓ) (outcomeOf (farmOfRecord r) q ℓ) (is-outcome r w p ℓ (hp .isSeat) _ refl) (is-outcome r w q ℓ (hq .isSeat) _ refl))
 
 -- ════ An edit that was seen ════
 
-in-core-told : (r : Record) (q : Seat) (ℓ : Time) (edit : Edit) (o : Outcome) → IsSeat (farmOfRecord r) q → ℓ .0 ≤ r .header .rounds
-    → outcomeOf (farmOfRecord r) q ℓ ≡ o → InCore (place (edit .seat) (edit .time)) o
-    → (s : Settled) × (settledAsked (good r) q ℓ ≡ found s) × (inCore (s .core) edit ≡ true)
-unfolding inCore
-in-core-told r q ℓ edit overBound hq h e c = absurd c
-in-core-told r q ℓ edit (settled s) hq h e c = (s, told r q ℓ s hq h e, c)
+-- A seat's view has places of seats alone.
+seen-seat : (farm : Farm) (x : Place) {p : Seat} {k : Time} → InView farm x p k → IsSeat farm p → IsSeat farm (x .seat)
+seen-seat farm x itself h = h
+seen-seat farm x (remembered v) h = seen-seat farm x v h
+seen-seat farm x (received hq a v) h = seen-seat farm x v hq
+
+in-core : (r : Record) → WithinBound r → (q : Seat) (ℓ : Time) → IsPlace r q ℓ → (x : Place) → IsSeat (farmOfRecord r) (x .seat) → (o : Outcome)
+    → outcomeOf (farmOfRecord r) q ℓ ≡ o → InCore x o → (a : Answer) × Gets r q ℓ a × InNumbers (a .core) x
+unfolding answerOf hasPlace
+in-core r w q ℓ here x hx overBound e c = absurd c
+in-core r w q ℓ here x hx (settled s) e c = (
+  answerOf r s,
+  gets r w q ℓ here s e,
+  rw (getD-times (r .header .seats) (s .core) (x .seat .0) (negsuc 0) hx) (at-most-latest (x .time) (s .core (x .seat .0)) .0 (ltb-true _ _ c)),
+)
 
 pub seen-edits-are-agreed : Seen-edits-are-agreed
 seen-edits-are-agreed r w p q hp hq edit e v ℓ late h =
-    in-core-told r q ℓ edit _ (hq .isSeat) h refl
-    (clean-edits-arrive (farmOfRecord r) (bound-fits r (w .isGood)) (w .fewLosers) p q (hp .isSeat) (hq .isSeat) (hp .isClean) (hq .isClean)
-    e (place (edit .seat) (edit .time)) v ℓ late h (outcomeOf (farmOfRecord r) q ℓ) (is-outcome r (w .isGood) q ℓ (hq .isSeat)))
+    let x = place (edit .seat) (edit .time) in
+    in-core r w q ℓ (hq .isSeat, h) x (seen-seat (farmOfRecord r) x v (hp .isSeat)) _ refl
+    (clean-edits-arrive (farmOfRecord r) (bound-fits r w) (few-losers r w) p q (hp .isSeat) (hq .isSeat) (hp .isClean) (hq .isClean) e x v ℓ late h
+    (outcomeOf (farmOfRecord r) q ℓ) (is-outcome r w q ℓ (hq .isSeat) _ refl))

@@ -1,2 +1,11 @@
+pub mod OrderLaws
+pub mod GoodLaws
+pub mod RecordRefusals
+pub mod TableRefusals
+pub mod QuestionRefusals
+pub mod RuleLaws
+pub mod AnswerLaws
+pub mod Adopted
 pub mod Honest
+pub mod EntryPoints
 pub mod Conditions
