@@ -1,2 +1,2 @@
 -- What the lister's own functions are about.
-pub mod Input
+pub mod Listing

@@ -1,40 +1,27 @@
-// The bytes that are taken from standard input.
+// The bytes that are taken from standard input. The kit's contract of `read` says how many bytes came and nothing of which they
+// are, so no contract here can say it either: that they are the next bytes of the input, at the front of what was lent, is
+// POSIX's word. What is proved is how many are asked for, and what follows each answer.
 use libc::STDIN_FILENO;
+use taking::reads::Input;
+use taking::reads::Next;
+use taking::reads::after_read;
+ghost use mathlib.Core.Path.{_≡_};
 ghost use lib.ListN.{length};
-ghost use Rattle.lister.specs.Input.{Within};
-
-pub enum Input {
-    // So many bytes, at the front of the buffer.
-    Taken(usize),
-    Unreadable,
-}
-
-// One read: how many bytes came, none at the end of the input.
-fn read_some(buffer: &mut [u8]) -> Input
-    ensures { λ r. ⌜ Within (length (now (buffer .exit))) r ⌝ }
-{
-    let got = libc::read(STDIN_FILENO, buffer);
-    if got < 0 {
-        return Input::Unreadable;
-    }
-    Input::Taken(io::count(got, buffer))
-}
+ghost use Rattle.taking.specs.Input.{Within, inputRoom};
 
 // Reads until the buffer is full or the input ends.
 pub fn take_input(buffer: &mut [u8]) -> Input
-    ensures { λ r. ⌜ Within (length (now (buffer .exit))) r ⌝ }
+    requires { ⌜ length (now buffer) ≡ inputRoom ⌝ }
+    ensures { λ r. ⌜ Within inputRoom r ⌝ }
 {
     let mut taken = 0;
-    while taken < buffer.len() {
+    loop {
         let rest = &mut buffer[taken..];
-        let got = read_some(rest);
-        let Input::Taken(count) = got else {
-            return Input::Unreadable;
-        };
-        if count == 0 {
-            return Input::Taken(taken);
+        let got = libc::read(STDIN_FILENO, rest);
+        let next = after_read(taken, rest, got);
+        match next {
+            Next::More(now) => taken = now,
+            Next::Over(input) => return input,
         }
-        taken += count;
     }
-    Input::Taken(taken)
 }
