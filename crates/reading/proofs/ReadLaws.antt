@@ -6,11 +6,12 @@ use mathlib.Core.List.{List, [], _∷_, _++_}
 use Prim.Native.Nat.{ℕ, zero, suc, _+_, _-_, _*_, _^_, _<_, _≤_}
 use native.Mathlib.Nat.{lt-of-lt-of-le, pow-le-pow-right, suc-mul, zero-mul, zero-add, suc-add, add-comm, mul-le-mul}
 use native.Mathlib.Omega.{arith}
-use lib.Dec.{leb, ltb, lit<}
+use lib.Dec.{leb, lit<}
 use lib.ListN.{length, drop}
-use borrow.Author.Tests.{leb-true, le-leb, ltb-true}
+use borrow.Author.Tests.{leb-true, le-leb}
 use Rattle.farm.specs.Limits.{Limits, limits}
 use Rattle.farm.specs.Sets.{Seats}
+use Rattle.farm.specs.declared.places.Seat.{Seat}
 use Rattle.farm.specs.declared.refusals.Refusal.{Refusal}
 use Rattle.farm.proofs.Cases.{and-elim}
 use Rattle.numbers.specs.declared.read.Cursor.{Cursor}
@@ -21,7 +22,7 @@ use Rattle.record.specs.declared.edits.Before.the-variants.{Nothing}
 use Rattle.record.specs.Taking.{Taken, value, refused, _>>=_}
 use Rattle.record.specs.Numbers.{takeNumber}
 use Rattle.record.specs.Header.{takeHeader}
-use Rattle.record.specs.Losses.{goodSet, takeSet, takeRound, takeRounds}
+use Rattle.record.specs.Losses.{firstSeat, seatAfter, takeSet, takeRound, takeRounds}
 use Rattle.record.specs.Edits.{takeEdits}
 use Rattle.record.specs.Record.{Record, Reading, good, bad, takeRecord, whole, readingOf}
 use Rattle.reading.specs.Filling.{Gives, given, takeNumbers, AllBelow, EditsFilled}
@@ -34,6 +35,7 @@ use Rattle.record.specs.declared.answers.Checked.{Checked}
 use Rattle.record.specs.declared.answers.Checked.the-variants.{Good, Refused as CheckedRefused}
 use Rattle.farm.specs.declared.refusals.Refusal.the-variants.{NoRoom}
 use Rattle.record.proofs.TakingLaws.{bind-value, Tail, tail-drop}
+use Rattle.record.proofs.GoodLaws.{set-facts}
 use Rattle.record.proofs.LossLaws.{set-took, rounds-tail}
 use Rattle.checking.proofs.RecordLaws.{from, from-is, Head}
 
@@ -91,12 +93,8 @@ unfolding AllBelow
 all-below-more low high [] h a = tt
 all-below-more low high (x ∷ xs) h a = (lt-of-lt-of-le (a .0) h, all-below-more low high xs h (a .1))
 
-good-set-below : (n sender set : ℕ) → goodSet n sender set ≡ true → set < 2 ^ n
-unfolding goodSet
-good-set-below n sender set e = ltb-true set (2 ^ n) (and-elim (ltb set (2 ^ n)) _ e .0)
-
 module _ (L : Limits) where
-  round-numbers : (n sender left : ℕ) (bytes : List ℕ) (sets : List Seats) (rest : List ℕ) → takeRound L n sender left bytes ≡ value sets rest
+  round-numbers : (n : ℕ) (sender : Seat) (left : ℕ) (bytes : List ℕ) (sets : List Seats) (rest : List ℕ) → takeRound L n sender left bytes ≡ value sets rest
       → (takeNumbers L left bytes ≡ value sets rest) × AllBelow (2 ^ n) sets
   unfolding takeRound takeNumbers _>>=_ AllBelow
   round-numbers n sender zero bytes sets rest e =
@@ -104,12 +102,12 @@ module _ (L : Limits) where
       (e, subst (λ (l : List ℕ). AllBelow (2 ^ n) l) none tt)
   round-numbers n sender (suc left) bytes sets rest e =
       let x = bind-value (takeSet L n sender bytes) _ sets rest e in
-      let y = bind-value (takeRound L n (suc sender) left (x .1)) _ sets rest (x .3) in
+      let y = bind-value (takeRound L n (seatAfter sender) left (x .1)) _ sets rest (x .3) in
       let was = set-took L n sender bytes (x .0) (x .1) (x .2) in
-      let later = round-numbers n (suc sender) left (x .1) (y .0) (y .1) (y .2) in
+      let later = round-numbers n (seatAfter sender) left (x .1) (y .0) (y .1) (y .2) in
       let front : x .0 ∷ y .0 ≡ sets = cc in (
         rw (was .0, later .0) (y .3),
-        subst (λ (l : List ℕ). AllBelow (2 ^ n) l) front (good-set-below n sender (x .0) (was .1), later .1),
+        subst (λ (l : List ℕ). AllBelow (2 ^ n) l) front (set-facts n sender (x .0) (was .1), later .1),
       )
 
   pub rounds-numbers : (n rounds : ℕ) (bytes : List ℕ) (sets : List Seats) (rest : List ℕ) → takeRounds L n rounds bytes ≡ value sets rest
@@ -119,9 +117,9 @@ module _ (L : Limits) where
       let none : [] ≡ sets = cc in
       (rw zero-mul e, subst (λ (l : List ℕ). AllBelow (2 ^ n) l) none tt)
   rounds-numbers n (suc rounds) bytes sets rest e =
-      let x = bind-value (takeRound L n 0 n bytes) _ sets rest e in
+      let x = bind-value (takeRound L n firstSeat n bytes) _ sets rest e in
       let y = bind-value (takeRounds L n rounds (x .1)) _ sets rest (x .3) in
-      let first = round-numbers n 0 n bytes (x .0) (x .1) (x .2) in
+      let first = round-numbers n firstSeat n bytes (x .0) (x .1) (x .2) in
       let later = rounds-numbers n rounds (x .1) (y .0) (y .1) (y .2) in
       let front : x .0 ++ y .0 ≡ sets = cc in
       let ends : y .1 ≡ rest = cc in
