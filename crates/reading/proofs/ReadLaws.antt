@@ -15,7 +15,8 @@ use Rattle.farm.specs.declared.places.Seat.{Seat}
 use Rattle.farm.specs.declared.refusals.Refusal.{Refusal}
 use Rattle.farm.proofs.Cases.{and-elim}
 use Rattle.numbers.specs.declared.read.Cursor.{Cursor}
-use Rattle.checking.specs.declared.answers.Passed.the-variants.{To}
+use Rattle.checking.specs.declared.answers.Passed.{Passed}
+use Rattle.checking.specs.declared.answers.Passed.the-variants.{To, Refused as PassedRefused}
 use Rattle.record.specs.declared.header.Header.{Header}
 use Rattle.record.specs.declared.edits.Edit.{Edit}
 use Rattle.record.specs.declared.edits.Before.the-variants.{Nothing}
@@ -34,9 +35,10 @@ use Rattle.record.specs.Answers.{checkedOf}
 use Rattle.record.specs.declared.answers.Checked.{Checked}
 use Rattle.record.specs.declared.answers.Checked.the-variants.{Good, Refused as CheckedRefused}
 use Rattle.farm.specs.declared.refusals.Refusal.the-variants.{NoRoom}
-use Rattle.record.proofs.TakingLaws.{bind-value, Tail, tail-drop}
+use Rattle.record.proofs.TakingLaws.{bind-value, value-not-refused, Tail, tail-drop}
 use Rattle.record.proofs.GoodLaws.{set-facts}
 use Rattle.record.proofs.LossLaws.{set-took, rounds-tail}
+use Rattle.checking.proofs.PassedLaws.{passed-was-refused}
 use Rattle.checking.proofs.RecordLaws.{from, from-is, Head}
 
 -- ════ A good reading comes apart ════
@@ -170,11 +172,12 @@ pub record EditsReady (bytes : List ℕ) (h : Header) (at next : ℕ) (r : Recor
   pub inside : next ≤ length (from at bytes)
   pub edits : takeEdits limits (h .seats) (h .rounds) (h .edits) Nothing (from next (from at bytes)) ≡ value (r .edits) []
 
-pub edits-ready : (bytes : List ℕ) (h : Header) (at : ℕ) (next : Cursor) (r : Record) → Ready bytes h at r
-    → To next ≡ passedIn (from at bytes) (takeNumbers limits (h .rounds * h .seats) (from at bytes)) → EditsReady bytes h at (next .at) r
+pub edits-ready : (bytes : List ℕ) (h : Header) (at : ℕ) (passed : Passed) (next : Cursor) (r : Record) → Ready bytes h at r
+    → passed ≡ passedIn (from at bytes) (takeNumbers limits (h .rounds * h .seats) (from at bytes)) → passed ≡ To next
+    → EditsReady bytes h at (next .at) r
 unfolding passedIn
-edits-ready bytes h at next r w e =
-    let place : To next ≡ To (cursorAt (from at bytes) (w .after-losses)) = e ∙ ap (passedIn (from at bytes)) (w .numbers) in
+edits-ready bytes h at passed next r w e f =
+    let place : To next ≡ To (cursorAt (from at bytes) (w .after-losses)) = sym f ∙ e ∙ ap (passedIn (from at bytes)) (w .numbers) in
     let where-next : next ≡ cursorAt (from at bytes) (w .after-losses) = cc in
     let at-next : next .at ≡ length (from at bytes) - length (w .after-losses) = ap (λ (c : Cursor). c .at) where-next in
     record {
@@ -184,6 +187,21 @@ edits-ready bytes h at next r w e =
           (from-is (next .at) (from at bytes) ∙ ap (λ (k : ℕ). drop k (from at bytes)) at-next ∙ tail-drop (w .tail))
           ∙ w .edits;
     }
+
+-- A part that gives a value is not refused.
+pub part-not-refused : {A : Type 0} (bytes : List ℕ) (t : Taken A) (a : A) (rest : List ℕ) (passed : Passed) (x : Refusal) → t ≡ value a rest
+    → passed ≡ passedIn bytes t → passed ≡ PassedRefused x → ⊥
+part-not-refused bytes t a rest passed x e p f = value-not-refused a rest x (sym e ∙ passed-was-refused bytes t x (sym p ∙ f))
+
+-- The answer of a good reading has the header that was read.
+pub good-answer : (bytes : List ℕ) (h : Header) (at : ℕ) (a : Accepted (readingOf limits bytes)) → Head bytes h at
+    → Good h ≡ checkedOf (readingOf limits bytes)
+unfolding checkedOf
+good-answer bytes h at a head =
+    let p = good-parts limits bytes (a .what) (a .is) in
+    let met : value h (from at bytes) ≡ value (a .what .header) (p .after-header) = sym (head .took) ∙ p .header in
+    let same : h ≡ a .what .header = cc in
+    rw (a .is) (ap Good same)
 
 -- ════ Room ════
 

@@ -35,9 +35,8 @@ pub fn read(
         return Checked::Refused(Refusal::NoRoom);
     }
     let checked = check(bytes);
-    let Checked::Good(header) = checked else {
+    let Checked::Good(_) = checked else {
         return checked;
     };
-    fill(bytes, losses, seats, times, cells, changes);
-    Checked::Good(header)
+    fill(bytes, losses, seats, times, cells, changes)
 }

@@ -1,10 +1,9 @@
--- `record::read::read` meets its contract: too little room is found first, and the fill only starts once the record is found good.
+-- `reading::tables::read` meets its contract: too little room is found first, and the fill only starts once the record is found good.
 -- Assumes nothing.
 use Rattle.reading.proofs.ReadLaws.{Room, enough, no-room, refused-reading, accepted-reading, good-reading}
 use Rattle.record.specs.Tables.{Tables, tables}
 use denote.Ref.{now}
 use native.Mathlib.Omega.{arith}
-use mathlib.Core.Path.{sym, _∙_}
 use borrow.Author.Needs.{needs}
 use Rattle.reading.proofs.tables.read.Statement.{statement}
 use Rattle.reading.proofs.tables.read.Tie as tie
@@ -42,19 +41,19 @@ returns-5 c = no-room _ _ (λ w. omega (arith, w .changes))
 check-requires : tie.Need-check-requires
 check-requires c κs = search needs
 
-enum-known-checked : tie.Need-enum-known-checked
-enum-known-checked c = search needs
-
 enum-told : tie.Need-enum-told
 enum-told c = search needs
 
+enum-told-2 : tie.Need-enum-told-2
+enum-told-2 c = search needs
+
 returns-6 : tie.Need-returns-6
 unfolding lent
-returns-6 c = refused-reading _ _ _ _ (roomed (c .before .before .before)) (c .before .before .check .ensures) (c .enum-told .given .1)
+returns-6 c = refused-reading _ _ _ _ (roomed (c .before .before .before)) (c .before .before .check .ensures) (c .enum-told2 .given .1)
 
 fill-requires : tie.Need-fill-requires
 unfolding lent
-fill-requires c κs = (accepted-reading _ _ _ (c .before .before .before .before .before .before .before .before .check .ensures) (c .before .before .before .before .before .before .checked .given .1), enough _ (roomed (c .before .before .before .before .before .before .before .before .before)))
+fill-requires c κs = (accepted-reading _ _ _ (c .before .before .before .before .before .before .before .check .ensures) (c .before .before .before .before .before .enum-told .given .1), enough _ (roomed (c .before .before .before .before .before .before .before .before)))
 
 same-length : tie.Need-same-length
 same-length c = search needs
@@ -73,7 +72,7 @@ same-length-5 c = search needs
 
 returns-7 : tie.Need-returns-7
 unfolding lent
-returns-7 c = good-reading _ _ _ _ (roomed (c .before .before .before .before .before .before .before .before .before .before .before .before .before .before .before .before .before .before .before)) (sym (c .before .before .before .before .before .before .before .before .before .before .before .before .before .before .before .before .checked .given .1) ∙ c .before .before .before .before .before .before .before .before .before .before .before .before .before .before .before .before .before .before .check .ensures) (c .before .before .before .before .before .before .before .before .before .fill .ensures)
+returns-7 c = good-reading _ _ _ _ (roomed (c .before .before .before .before .before .before .before .before .before .before .before .before .before .before .before .before .before .before)) (c .before .before .before .before .before .before .before .before .before .fill .ensures .0) (c .before .before .before .before .before .before .before .before .before .fill .ensures .1)
 
 pub read-spec : {M : Type 1} → statement M
 read-spec =
@@ -85,8 +84,8 @@ read-spec =
     returns-4
     returns-5
     check-requires
-    enum-known-checked
     enum-told
+    enum-told-2
     returns-6
     fill-requires
     same-length
