@@ -1,14 +1,14 @@
 -- A good reading and its parts, as the second pass meets them.
 -- Assumes nothing.
 use mathlib.Core.Path.{_≡_, refl, sym, _∙_, ap, ap₂, subst}
-use mathlib.Core.Bool.{Bool, true, false}
+use mathlib.Core.Bool.{true, false}
 use mathlib.Core.List.{List, [], _∷_, _++_}
 use Prim.Native.Nat.{ℕ, zero, suc, _+_, _-_, _*_, _^_, _<_, _≤_}
 use native.Mathlib.Nat.{lt-of-lt-of-le, pow-le-pow-right, suc-mul, zero-mul, zero-add, suc-add, add-comm, mul-le-mul}
 use native.Mathlib.Omega.{arith}
 use lib.Dec.{leb, lit<}
 use lib.ListN.{length, drop}
-use borrow.Author.Tests.{leb-true, le-leb}
+use borrow.Author.Tests.{leb-true, le-leb, lt-leb}
 use Rattle.farm.specs.Limits.{Limits, limits}
 use Rattle.farm.specs.Sets.{Seats}
 use Rattle.farm.specs.declared.places.Seat.{Seat}
@@ -28,7 +28,7 @@ use Rattle.record.specs.Edits.{takeEdits}
 use Rattle.record.specs.Record.{Record, Reading, good, bad, takeRecord, whole, readingOf}
 use Rattle.reading.specs.Filling.{Gives, given, takeNumbers, AllBelow, EditsFilled}
 use Rattle.record.specs.Tables.{Tables, over, seatsOf, timesOf, cellsOf, changesOf, roomy, readInto, tablesAfter, TablesRead, Accepted}
-use Rattle.reading.specs.Outcome.{ReadOutcome}
+use Rattle.reading.specs.Outcome.{roomFor, ReadOutcome}
 use Rattle.numbers.specs.Cursors.{cursorAt}
 use Rattle.checking.specs.Parts.{passedIn}
 use Rattle.record.specs.Answers.{checkedOf}
@@ -227,16 +227,25 @@ room t e =
       changes = leb-true _ _ (d .1);
     }
 
-pub enough : (t : Tables) → Room t → roomy limits t ≡ true
-unfolding roomy
-enough t w =
-    rw (
-      le-leb 889 (length (t .losses)) (w .losses),
-      le-leb 512 (length (t .seats)) (w .seats),
-      le-leb 512 (length (t .times)) (w .times),
-      le-leb 512 (length (t .cells)) (w .cells),
-      le-leb 512 (length (t .changes)) (w .changes),
-    )
+-- Which test decides, from the lengths.
+module _ (losses seats times cells changes : ℕ) where
+  pub few-losses : losses < 889 → roomFor losses seats times cells changes ≡ false
+  few-losses l = rw (lt-leb 889 losses l)
+
+  module _ (a : 889 ≤ losses) where
+    pub few-seats : seats < 512 → roomFor losses seats times cells changes ≡ false
+    few-seats l = rw (le-leb 889 losses a, lt-leb 512 seats l)
+
+    module _ (b : 512 ≤ seats) where
+      pub few-times : times < 512 → roomFor losses seats times cells changes ≡ false
+      few-times l = rw (le-leb 889 losses a, le-leb 512 seats b, lt-leb 512 times l)
+
+      module _ (c : 512 ≤ times) where
+        pub few-cells : cells < 512 → roomFor losses seats times cells changes ≡ false
+        few-cells l = rw (le-leb 889 losses a, le-leb 512 seats b, le-leb 512 times c, lt-leb 512 cells l)
+
+        pub changes-decide : 512 ≤ cells → roomFor losses seats times cells changes ≡ leb 512 changes
+        changes-decide d = rw (le-leb 889 losses a, le-leb 512 seats b, le-leb 512 times c, le-leb 512 cells d)
 
 -- ════ The tables afterwards ════
 
@@ -270,23 +279,19 @@ sets-ready bytes h at r w = (record { what = r .losses; rest = w .after-losses; 
 -- ════ Reading into tables ════
 
 -- Too little room anywhere is refusal 7, and leaves all tables.
-pub no-room : (bytes : List ℕ) (t : Tables) → (Room t → ⊥) → ReadOutcome bytes t (CheckedRefused NoRoom) t
+pub no-room : (bytes : List ℕ) (t : Tables) → roomy limits t ≡ false → ReadOutcome bytes t (CheckedRefused NoRoom) t
 unfolding readInto checkedOf
-no-room bytes t h = by (roomy limits t) refl
-  where
-    by : (b : Bool) → roomy limits t ≡ b → ReadOutcome bytes t (CheckedRefused NoRoom) t
-    by true e = absurd (h (room t e))
-    by false e = record { answered = rw e; left = tables-kept _ NoRoom t (rw e) }
+no-room bytes t e = record { answered = rw e; left = tables-kept _ NoRoom t (rw e) }
 
 -- With room, the record's own refusal leaves all tables too.
-pub refused-reading : (bytes : List ℕ) (t : Tables) (answer : Checked) (x : Refusal) → Room t → answer ≡ checkedOf (readingOf limits bytes)
+pub refused-reading : (bytes : List ℕ) (t : Tables) (answer : Checked) (x : Refusal) → roomy limits t ≡ true → answer ≡ checkedOf (readingOf limits bytes)
     → answer ≡ CheckedRefused x → ReadOutcome bytes t answer t
 unfolding readInto checkedOf
 refused-reading bytes t answer x w e f = by (readingOf limits bytes) refl
   where
     by : (reading : Reading) → readingOf limits bytes ≡ reading → ReadOutcome bytes t answer t
     by (good r) g = let no : Good (r .header) ≡ CheckedRefused x = sym (e ∙ ap checkedOf g) ∙ f in let z : _≡_ {A = ℕ} 0 1 = cc in absurd (omega arith)
-    by (bad r) g = record { answered = rw (enough t w) e; left = tables-kept _ r t (rw (enough t w) g) }
+    by (bad r) g = record { answered = rw w e; left = tables-kept _ r t (rw w g) }
 
 pub accepted-reading : (bytes : List ℕ) (answer : Checked) (h : Header) → answer ≡ checkedOf (readingOf limits bytes) → answer ≡ Good h
     → Accepted (readingOf limits bytes)
@@ -297,7 +302,7 @@ accepted-reading bytes answer h e f = by (readingOf limits bytes) refl
     by (good r) g = record { what = r; is = g }
     by (bad r) g = let no : CheckedRefused r ≡ Good h = sym (e ∙ ap checkedOf g) ∙ f in let z : _≡_ {A = ℕ} 0 1 = cc in absurd (omega arith)
 
-pub good-reading : (bytes : List ℕ) (before after : Tables) (answer : Checked) → Room before → answer ≡ checkedOf (readingOf limits bytes)
+pub good-reading : (bytes : List ℕ) (before after : Tables) (answer : Checked) → roomy limits before ≡ true → answer ≡ checkedOf (readingOf limits bytes)
     → TablesRead (readingOf limits bytes) before after → ReadOutcome bytes before answer after
 unfolding readInto
-good-reading bytes before after answer w e f = record { answered = rw (enough before w) e; left = rw (enough before w) f }
+good-reading bytes before after answer w e f = record { answered = rw w e; left = rw w f }
