@@ -2,6 +2,7 @@
 // not reach. They are looked through here without a table.
 use crate::answers::Passed;
 use crate::answers::passed_refusal;
+use farm::places::Seat;
 use farm::refusals::Refusal;
 use numbers::read::Cursor;
 use numbers::read::Number;
@@ -12,12 +13,12 @@ ghost use mathlib.Core.Path.{_≡_};
 ghost use Prim.Native.Nat.{_<_, _≤_};
 ghost use lib.ListN.{length, drop};
 ghost use Rattle.farm.specs.Limits.{limits};
-ghost use Rattle.record.specs.Losses.{takeSet, takeRound, takeRounds};
+ghost use Rattle.record.specs.Losses.{firstSeat, takeSet, takeRound, takeRounds};
 ghost use Rattle.numbers.specs.Cursors.{numberIn};
 ghost use Rattle.checking.specs.Parts.{passedIn};
 
 // The loss set of a sender. The set is tested when its number was taken.
-pub fn read_set(bytes: &[u8], from: Cursor, seats: u8, sender: u8) -> Number
+pub fn read_set(bytes: &[u8], from: Cursor, seats: u8, sender: Seat) -> Number
     requires { ⌜ seats < 16 ⌝ }
     ensures { λ r. ⌜ r ≡ numberIn (now (bytes .entry)) (takeSet limits seats sender (drop (from .at) (now (bytes .entry)))) ⌝ }
 {
@@ -35,12 +36,12 @@ pub fn read_set(bytes: &[u8], from: Cursor, seats: u8, sender: u8) -> Number
 // The sets of one round, one for each sender.
 pub fn check_round(bytes: &[u8], from: Cursor, seats: u8) -> Passed
     requires { ⌜ (seats < 16) × (from .at ≤ length (now bytes)) ⌝ }
-    ensures { λ r. ⌜ r ≡ passedIn (now (bytes .entry)) (takeRound limits seats 0 seats (drop (from .at) (now (bytes .entry)))) ⌝ }
+    ensures { λ r. ⌜ r ≡ passedIn (now (bytes .entry)) (takeRound limits seats firstSeat seats (drop (from .at) (now (bytes .entry)))) ⌝ }
 {
     let mut at = from.at;
     let mut sender: u8 = 0;
     while sender < seats {
-        let number = read_set(bytes, Cursor { at }, seats, sender);
+        let number = read_set(bytes, Cursor { at }, seats, Seat(sender));
         let Number::Value(_, next) = number else {
             return Passed::Refused(refusal_of(number));
         };

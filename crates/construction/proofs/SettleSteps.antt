@@ -19,7 +19,7 @@ use Rattle.farm.specs.declared.places.Seat.{Seat}
 use Rattle.farm.specs.declared.places.Time.{Time}
 use Rattle.farm.specs.declared.refusals.Refusal.the-variants.{OverBound}
 use Rattle.farm.proofs.Cases.{less-or-not}
-use Rattle.knowledge.specs.Farm.{Farm, IsSeat}
+use Rattle.knowledge.specs.Farm.{Farm, IsSeat, time}
 use Rattle.knowledge.specs.Views.{viewsOf}
 use Rattle.knowledge.specs.Settled.{criticalTime, coreView, next, reached, settleFrom, outcomeOf}
 use Rattle.viewing.specs.Counts.{room, counts, held}
@@ -85,10 +85,10 @@ core-late farm ℓ known back within e late = rw (← critical-is farm ℓ known
 
 -- ════ A step ════
 
-pub shrinks-falling : (farm : Farm) (ℓ : ℕ) (known : Seats) → Shrinks farm ℓ known → Falling farm ℓ known
+pub shrinks-falling : (farm : Farm) (ℓ : ℕ) (known : Seats) → Shrinks farm (time ℓ) known → Falling farm ℓ known
 shrinks-falling farm ℓ known s = record { real = s .real; within = s .within; falls = s .falls }
 
-pub falling-shrinks : (farm : Farm) (ℓ : ℕ) (known : Seats) → Falling farm ℓ known → Shrinks farm ℓ known
+pub falling-shrinks : (farm : Farm) (ℓ : ℕ) (known : Seats) → Falling farm ℓ known → Shrinks farm (time ℓ) known
 falling-shrinks farm ℓ known f = record { real = f .real; within = f .within; falls = f .falls }
 
 -- No change: the steps end.
@@ -125,12 +125,12 @@ settle-enough farm fits ℓ (suc a) (suc b) steps known f ha hb =
         ∙ sym (settle-goes-on farm ℓ b steps known (changed farm ℓ known less))
 
 -- A change makes the set smaller.
-pub change-is-less : (farm : Farm) (ℓ : ℕ) (known : Seats) → Shrinks farm ℓ known → next farm ℓ known ≢ known
+pub change-is-less : (farm : Farm) (ℓ : ℕ) (known : Seats) → Shrinks farm (time ℓ) known → next farm ℓ known ≢ known
     → size (farm .seats) (next farm ℓ known) < size (farm .seats) known
 change-is-less farm ℓ known s moved = ⊎-elim (λ same. absurd (moved same)) (λ less. less) (change-falls farm ℓ known (shrinks-falling farm ℓ known s))
 
 -- A change: the steps go on from the next set.
-pub settle-continues : (farm : Farm) → farm .bound < farm .seats → (ℓ steps : ℕ) (known : Seats) → Shrinks farm ℓ known
+pub settle-continues : (farm : Farm) → farm .bound < farm .seats → (ℓ steps : ℕ) (known : Seats) → Shrinks farm (time ℓ) known
     → next farm ℓ known ≢ known
     → settleFrom farm ℓ (size (farm .seats) known) steps known
     ≡ settleFrom farm ℓ (size (farm .seats) (next farm ℓ known)) (steps + 1) (next farm ℓ known)
@@ -160,12 +160,12 @@ pub next-found : (farm : Farm) (ℓ : ℕ) (known : Seats) (core : List ℕ) (re
 unfolding next
 next-found farm ℓ known core result small e r = r ∙ known-held farm (coreView farm ℓ known) core small e
 
-pub next-shrinks : (farm : Farm) → farm .bound < farm .seats → (ℓ : ℕ) (known result : Seats) → Shrinks farm ℓ known
-    → result ≡ next farm ℓ known → Shrinks farm ℓ result
+pub next-shrinks : (farm : Farm) → farm .bound < farm .seats → (ℓ : ℕ) (known result : Seats) → Shrinks farm (time ℓ) known
+    → result ≡ next farm ℓ known → Shrinks farm (time ℓ) result
 next-shrinks farm fits ℓ known result s e =
     rw e (falling-shrinks farm ℓ (next farm ℓ known) (next-falls farm fits ℓ known (shrinks-falling farm ℓ known s)))
 
-pub next-is-less : (farm : Farm) (ℓ : ℕ) (known result : Seats) → Shrinks farm ℓ known → result ≡ next farm ℓ known → result ≢ known
+pub next-is-less : (farm : Farm) (ℓ : ℕ) (known result : Seats) → Shrinks farm (time ℓ) known → result ≡ next farm ℓ known → result ≢ known
     → size (farm .seats) result < size (farm .seats) known
 next-is-less farm ℓ known result s e moved = rw e (change-is-less farm ℓ known s (λ same. moved (e ∙ same)))
 
@@ -177,7 +177,7 @@ abbrev pub the-answer : Ruling → Settled → Answer
 the-answer ruling settled = record { ruling = ruling; settled = settled }
 
 -- No change.
-pub settled-here : (farm : Farm) (ℓ steps : ℕ) (known result : Seats) (critical : ℤ) (core : Counts) → Shrinks farm ℓ known
+pub settled-here : (farm : Farm) (ℓ steps : ℕ) (known result : Seats) (critical : ℤ) (core : Counts) → Shrinks farm (time ℓ) known
     → result ≡ next farm ℓ known → result ≡ known → critical ≡ pos ℓ -ℤ pos (farm .bound + 1 - size (farm .seats) known)
     → core .of ≡ counts (farm .seats) (coreView farm ℓ known)
     → the-settled steps critical known core ≡ settledFor (farm .seats) (settleFrom farm ℓ (size (farm .seats) known) steps known)
@@ -187,7 +187,7 @@ settled-here farm ℓ steps known result critical core s e same ec eo =
     (ap₂ (λ (k : ℤ) (l : List ℕ). the-settled steps k known (record { of = l })) ec eo)
 
 -- A change.
-pub settled-on : (farm : Farm) → farm .bound < farm .seats → (ℓ steps : ℕ) (known result : Seats) (r : Settled) → Shrinks farm ℓ known
+pub settled-on : (farm : Farm) → farm .bound < farm .seats → (ℓ steps : ℕ) (known result : Seats) (r : Settled) → Shrinks farm (time ℓ) known
     → result ≡ next farm ℓ known → result ≢ known
     → r ≡ settledFor (farm .seats) (settleFrom farm ℓ (size (farm .seats) result) (steps + 1) result)
     → r ≡ settledFor (farm .seats) (settleFrom farm ℓ (size (farm .seats) known) steps known)
@@ -197,7 +197,7 @@ settled-on farm fits ℓ steps known result r s e moved er =
 -- ════ The asking seat's own known set ════
 
 pub own-shrinks : (farm : Farm) → farm .bound < farm .seats → (p : Seat) (ℓ : Time) → IsSeat farm p → (known : Seats)
-    → known ≡ knownOf farm p ℓ → size (farm .seats) known ≤ farm .bound → Shrinks farm (ℓ .0) known
+    → known ≡ knownOf farm p ℓ → size (farm .seats) known ≤ farm .bound → Shrinks farm ℓ known
 own-shrinks farm fits p ℓ hp known e within =
     let same = stage-start farm p ℓ hp ∙ sym e in
     falling-shrinks farm (ℓ .0) known (rw same at (stage-falls farm fits p ℓ hp (rw same within) 0))

@@ -4,11 +4,12 @@ use mathlib.Core.Bool.{true}
 use Prim.Native.Nat.{ℕ, _^_, _≤_, _<_}
 use lib.IntN.{pos}
 use Rattle.farm.specs.Sets.{Seats, bit, size}
+use Rattle.farm.specs.declared.places.Time.{Time}
 use Rattle.farm.specs.declared.refusals.Refusal.the-variants.{OverBound}
 use Rattle.knowledge.specs.Farm.{Farm}
 use Rattle.knowledge.specs.Views.{View}
 use Rattle.knowledge.specs.Settled as rules
-use Rattle.knowledge.specs.Settled.{Outcome, overBound, settled, next}
+use Rattle.knowledge.specs.Settled.{Outcome, overBound, settled, coreView, next, settleFrom}
 use Rattle.viewing.specs.Counts.{counts}
 use Rattle.viewing.specs.declared.views.Counts.{Counts}
 use Rattle.construction.specs.declared.settled.Settled.{Settled}
@@ -35,8 +36,15 @@ answerFor n (settled s) = record { ruling = Answered; settled = settledFor n s }
 
 -- ════ What the recursion of the construction stands on ════
 
+-- The view that is looked at after a known set, and what is settled from it on.
+abbrev pub coreAt : Farm → Time → Seats → View
+coreAt farm ℓ known = coreView farm (ℓ .0) known
+
+abbrev pub settledFrom : Farm → Time → (left steps : ℕ) → Seats → rules.Settled
+settledFrom farm ℓ left steps known = settleFrom farm (ℓ .0) left steps known
+
 -- A known set within the bound, from which the next step only takes seats out. Every stage of the chain of rule 3 is one.
-pub record Shrinks (farm : Farm) (ℓ : ℕ) (known : Seats) : Type 0 where
+pub record Shrinks (farm : Farm) (ℓ : Time) (known : Seats) : Type 0 where
   pub real : known < 2 ^ farm .seats
   pub within : size (farm .seats) known ≤ farm .bound
-  pub falls : (z : ℕ) → z < farm .seats → bit (next farm ℓ known) z ≡ true → bit known z ≡ true
+  pub falls : (z : ℕ) → z < farm .seats → bit (next farm (ℓ .0) known) z ≡ true → bit known z ≡ true

@@ -12,9 +12,9 @@ use viewing::views::views_at;
 ghost use mathlib.Core.Path.{_≡_};
 ghost use Prim.Native.Nat.{_≤_, _<_};
 ghost use Rattle.farm.specs.Limits.{limits};
-ghost use Rattle.knowledge.specs.Known.{missed, knownIn, knownOf};
-ghost use Rattle.viewing.specs.Counts.{counts, held, viewIn, farmFor};
-ghost use Rattle.construction.specs.KnownSets.{lostBefore, knownSets};
+ghost use Rattle.knowledge.specs.Known.{knownIn, knownOf};
+ghost use Rattle.viewing.specs.Counts.{counts, held, farmFor, seatView};
+ghost use Rattle.construction.specs.KnownSets.{knownSets, isLostBefore, isMissed};
 
 // The known sets of all seats' views at one time, 0 for every seat from n on.
 pub struct KnownSets {
@@ -23,7 +23,7 @@ pub struct KnownSets {
 
 // Whether a send of z to q was lost in a round that ends before the count.
 fn missed_at(losses: &[u16], sizes: Sizes, z: Seat, q: Seat, count: u16) -> bool
-    ensures { λ r. ⌜ r ≡ lostBefore (farmFor sizes (now (losses .entry))) (z .0) (q .0) count ⌝ }
+    ensures { λ r. ⌜ r ≡ isLostBefore (farmFor sizes (now (losses .entry))) z q count ⌝ }
 {
     for r in 1..count {
         if was_lost(losses, sizes.seats, Time(r - 1), z, q) {
@@ -36,7 +36,7 @@ fn missed_at(losses: &[u16], sizes: Sizes, z: Seat, q: Seat, count: u16) -> bool
 // Whether a send of z into a place of the view was lost.
 fn missed_in(losses: &[u16], sizes: Sizes, view: &[u16; ROOM], z: Seat) -> bool
     requires { ⌜ sizes .seats ≤ limits .mostSeats ⌝ }
-    ensures { λ r. ⌜ r ≡ missed (farmFor sizes (now (losses .entry))) (held (now (view .entry))) (z .0) ⌝ }
+    ensures { λ r. ⌜ r ≡ isMissed (farmFor sizes (now (losses .entry))) (held (now (view .entry))) z ⌝ }
 {
     let seats = sizes.seats;
     for q in 0..seats {
@@ -72,7 +72,7 @@ pub fn known_of(losses: &[u16], sizes: Sizes, seat: Seat, time: Time) -> u16
 // The known set of one seat's view in a table of all views.
 fn known_at(losses: &[u16], sizes: Sizes, views: &[u16; TABLE], seat: Seat) -> u16
     requires { ⌜ (sizes .seats ≤ limits .mostSeats) × (seat .0 < limits .mostSeats) ⌝ }
-    ensures { λ r. ⌜ r ≡ knownIn (farmFor sizes (now (losses .entry))) (viewIn (now (views .entry)) (seat .0)) ⌝ }
+    ensures { λ r. ⌜ r ≡ knownIn (farmFor sizes (now (losses .entry))) (seatView (now (views .entry)) seat) ⌝ }
 {
     let view = seat_view(views, sizes.seats, seat);
     known_in(losses, sizes, &view.of)

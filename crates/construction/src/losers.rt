@@ -5,15 +5,15 @@ use viewing::losses::was_lost;
 use viewing::sets::with_seat;
 use viewing::sizes::Sizes;
 ghost use mathlib.Core.Path.{_≡_};
-ghost use Prim.Native.Nat.{suc, _≤_, _<_};
+ghost use Prim.Native.Nat.{_≤_, _<_};
 ghost use Rattle.farm.specs.Limits.{limits};
-ghost use Rattle.farm.specs.Sets.{bit};
-ghost use Rattle.knowledge.specs.Farm.{losesIn, losesBy, losersBy, losers};
+ghost use Rattle.knowledge.specs.Farm.{after, losersBy};
 ghost use Rattle.viewing.specs.Counts.{farmFor};
+ghost use Rattle.construction.specs.KnownSets.{isLoserIn, isLoserBy, isLoser};
 
 // Whether a send of z was lost in the round that begins at the time.
 fn loses_in(losses: &[u16], sizes: Sizes, begun: Time, z: Seat) -> bool
-    ensures { λ r. ⌜ r ≡ losesIn (farmFor sizes (now (losses .entry))) (suc (begun .0)) (z .0) ⌝ }
+    ensures { λ r. ⌜ r ≡ isLoserIn (farmFor sizes (now (losses .entry))) (after begun) z ⌝ }
 {
     let seats = sizes.seats;
     for q in 0..seats {
@@ -26,7 +26,7 @@ fn loses_in(losses: &[u16], sizes: Sizes, begun: Time, z: Seat) -> bool
 
 // Whether a send of z was lost in the rounds up to the time.
 fn loses_by(losses: &[u16], sizes: Sizes, time: Time, z: Seat) -> bool
-    ensures { λ r. ⌜ r ≡ losesBy (farmFor sizes (now (losses .entry))) (time .0) (z .0) ⌝ }
+    ensures { λ r. ⌜ r ≡ isLoserBy (farmFor sizes (now (losses .entry))) time z ⌝ }
 {
     for k in 0..time.0 {
         if loses_in(losses, sizes, Time(k), z) {
@@ -52,7 +52,7 @@ pub fn losers_by(losses: &[u16], sizes: Sizes, time: Time) -> u16
 // Whether a seat is a loser of the whole record; every other seat is clean.
 pub fn is_loser(losses: &[u16], sizes: Sizes, seat: Seat) -> bool
     requires { ⌜ seat .0 < sizes .seats ⌝ }
-    ensures { λ r. ⌜ r ≡ bit (losers (farmFor sizes (now (losses .entry)))) (seat .0) ⌝ }
+    ensures { λ r. ⌜ r ≡ isLoser (farmFor sizes (now (losses .entry))) seat ⌝ }
 {
     loses_by(losses, sizes, Time(sizes.rounds), seat)
 }

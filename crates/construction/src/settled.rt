@@ -17,8 +17,8 @@ ghost use lib.IntN.{pos, _-ℤ_};
 ghost use Rattle.farm.specs.Limits.{limits};
 ghost use Rattle.farm.specs.Sets.{size};
 ghost use Rattle.viewing.specs.Counts.{counts, farmFor};
-ghost use Rattle.knowledge.specs.Settled.{coreView, settleFrom, outcomeOf};
-ghost use Rattle.construction.specs.Answers.{Shrinks, settledFor, answerFor};
+ghost use Rattle.knowledge.specs.Settled.{outcomeOf};
+ghost use Rattle.construction.specs.Answers.{coreAt, settledFrom, Shrinks, settledFor, answerFor};
 
 // Rule 5: the count of steps, the critical time, which may be below 0, the kept set and the core.
 pub struct Settled {
@@ -59,7 +59,7 @@ fn time_back(time: Time, delay: u16) -> i16
 // The view of all seats outside the known set at the critical time that follows from it.
 fn core_view(losses: &[u16], sizes: Sizes, time: Time, known: u16) -> Counts
     requires { ⌜ (sizes .seats ≤ limits .mostSeats) × (time .0 ≤ limits .mostRounds) × (size (sizes .seats) known ≤ sizes .bound) ⌝ }
-    ensures { λ r. ⌜ r .of ≡ counts (sizes .seats) (coreView (farmFor sizes (now (losses .entry))) (time .0) known) ⌝ }
+    ensures { λ r. ⌜ r .of ≡ counts (sizes .seats) (coreAt (farmFor sizes (now (losses .entry))) time known) ⌝ }
 {
     let back = delay(sizes, known);
     if time.0 < back {
@@ -76,9 +76,9 @@ fn core_view(losses: &[u16], sizes: Sizes, time: Time, known: u16) -> Counts
 // The steps from a known set on: where the next known set is the same, they are done.
 fn settle_from(losses: &[u16], sizes: Sizes, time: Time, steps: u8, known: u16) -> Settled
     requires { ⌜ (sizes .seats ≤ limits .mostSeats) × (sizes .bound < sizes .seats) × (time .0 ≤ limits .mostRounds) × (steps + size (sizes .seats) known ≤ 255) ⌝ }
-    requires { ⌜ Shrinks (farmFor sizes (now losses)) (time .0) known ⌝ }
+    requires { ⌜ Shrinks (farmFor sizes (now losses)) time known ⌝ }
     ensures { λ r.
-        ⌜ r ≡ settledFor (sizes .seats) (settleFrom (farmFor sizes (now (losses .entry))) (time .0) (size (sizes .seats) known) steps known) ⌝ }
+        ⌜ r ≡ settledFor (sizes .seats) (settledFrom (farmFor sizes (now (losses .entry))) time (size (sizes .seats) known) steps known) ⌝ }
 {
     let core = core_view(losses, sizes, time, known);
     let next = known_in(losses, sizes, &core.of);

@@ -16,13 +16,14 @@ use mir.ValLaws.{toZ-ofZ}
 use borrow.Author.Tests.{lt-leb, le-leb, eq-eqb, ne-eqb, eqb-false}
 use Rattle.farm.specs.Limits.{Limits}
 use Rattle.farm.specs.Sets.{Seats}
+use Rattle.farm.specs.declared.places.Seat.{Seat}
 use Rattle.farm.specs.declared.refusals.Refusal.the-variants.{OutOfRange, BadLossSet, BadOrder, BadLengths}
 use Rattle.record.specs.declared.header.Header.{Header}
 use Rattle.record.specs.declared.edits.Edit.{Edit}
 use Rattle.record.specs.declared.edits.Before.{Before}
 use Rattle.record.specs.declared.edits.Before.the-variants.{Nothing, This}
 use Rattle.record.specs.Changes.{mapped}
-use Rattle.record.specs.Losses.{goodSet}
+use Rattle.record.specs.Losses.{firstSeat, goodSet}
 use Rattle.record.specs.Edits.{follows}
 use Rattle.record.specs.Good.{goodHeader, senderAfter, goodSets, goodEdit}
 use Rattle.record.specs.Tables.{Tables, editOf, editsFrom}
@@ -98,23 +99,23 @@ module _ (n R : ℕ) (lists : Tables) where
 
 -- ════ The loss sets ════
 
-pub sender-wraps : (n sender : ℕ) → sender + 1 ≡ n → senderAfter n sender ≡ 0
+pub sender-wraps : (n : ℕ) (sender : Seat) → sender .0 + 1 ≡ n → senderAfter n sender ≡ firstSeat
 unfolding senderAfter
-sender-wraps n sender e = rw (eq-eqb (suc sender) n (omega arith))
+sender-wraps n sender e = rw (eq-eqb (suc (sender .0)) n (omega arith))
 
-pub sender-goes-on : (n sender : ℕ) → (sender + 1 ≡ n → ⊥) → senderAfter n sender ≡ sender + 1
+pub sender-goes-on : (n : ℕ) (sender : Seat) → (sender .0 + 1 ≡ n → ⊥) → senderAfter n sender ≡ record { 0 = sender .0 + 1 }
 unfolding senderAfter
-sender-goes-on n sender d = let other : suc sender ≡ n → ⊥ = λ e. d (omega arith) in rw (ne-eqb (suc sender) n other) (omega arith)
+sender-goes-on n sender d = let other : suc (sender .0) ≡ n → ⊥ = λ e. d (omega arith) in rw (ne-eqb (suc (sender .0)) n other, add-one)
 
-pub sender-below : (n sender : ℕ) → sender < n → senderAfter n sender < n
+pub sender-below : (n : ℕ) (sender : Seat) → sender .0 < n → senderAfter n sender .0 < n
 unfolding senderAfter
-sender-below n sender l = by (eqb (suc sender) n) refl
+sender-below n sender l = by (eqb (suc (sender .0)) n) refl
   where
-    by : (t : Bool) → eqb (suc sender) n ≡ t → senderAfter n sender < n
+    by : (t : Bool) → eqb (suc (sender .0)) n ≡ t → senderAfter n sender .0 < n
     by true e = rw e (omega arith)
-    by false e = rw e (let d = eqb-false (suc sender) n e in omega (arith, d))
+    by false e = rw e (let d = eqb-false (suc (sender .0)) n e in omega (arith, d))
 
-module _ (n sender i : ℕ) (sets : List Seats) where
+module _ (n : ℕ) (sender : Seat) (i : ℕ) (sets : List Seats) where
   pub set-stops : i < length sets → goodSet n sender (getD sets i 0) ≡ false → goodSets n sender (drop i sets) ≡ false
   unfolding goodSets
   set-stops l e = rw (drop-cons sets i 0 l, goodSets, e)
@@ -237,11 +238,11 @@ module _ (L : Limits) (n t R : ℕ) (lists : Tables) where
     lengths-stop e = rw (header, e)
 
     module _ (lengths : fitting n R lists ≡ true) where
-      pub losses-stop : goodSets n 0 (lists .losses) ≡ false → judgedLists L n t R lists ≡ faulty BadLossSet
+      pub losses-stop : goodSets n firstSeat (lists .losses) ≡ false → judgedLists L n t R lists ≡ faulty BadLossSet
       unfolding judgedLists unless
       losses-stop e = rw (header, lengths, e)
 
-      pub edits-decide-last : goodSets n 0 (lists .losses) ≡ true
+      pub edits-decide-last : goodSets n firstSeat (lists .losses) ≡ true
           → judgedLists L n t R lists ≡ judgedEdits L n R Nothing (editsIn lists)
       unfolding judgedLists unless
       edits-decide-last e = rw (header, lengths, e)

@@ -20,6 +20,7 @@ ghost use Prim.Native.Nat.{_<_};
 ghost use lib.ListN.{length};
 ghost use Rattle.farm.specs.Limits.{limits};
 ghost use Rattle.record.specs.declared.edits.Before.the-variants.{Nothing};
+ghost use Rattle.record.specs.Losses.{firstSeat};
 ghost use Rattle.record.specs.Good.{goodHeader, senderAfter, goodSets, goodEdit};
 ghost use Rattle.record.specs.Tables.{editsFrom};
 ghost use Rattle.record.specs.Writing.{fitting, judgedEdits, judgedLists, listsOf};
@@ -69,22 +70,22 @@ fn lengths_fit<'a>(
 }
 
 // After the last sender of a round comes the first one of the next.
-fn sender_after(seats: u8, sender: u8) -> u8
-    requires { ⌜ sender < seats ⌝ }
+fn sender_after(seats: u8, sender: Seat) -> Seat
+    requires { ⌜ sender .0 < seats ⌝ }
     ensures { λ r. ⌜ r ≡ senderAfter seats sender ⌝ }
 {
-    let next = sender + 1;
+    let next = sender.0 + 1;
     if next == seats {
-        return 0;
+        return Seat(0);
     }
-    next
+    Seat(next)
 }
 
 fn good_losses(seats: u8, losses: &[u16]) -> bool
     requires { ⌜ (0 < seats) × (seats < 16) ⌝ }
-    ensures { λ r. ⌜ r ≡ goodSets seats 0 (now (losses .entry)) ⌝ }
+    ensures { λ r. ⌜ r ≡ goodSets seats firstSeat (now (losses .entry)) ⌝ }
 {
-    let mut sender: u8 = 0;
+    let mut sender = Seat(0);
     let mut i: usize = 0;
     while i < losses.len() {
         if !good_set(seats, sender, losses[i] as u32) {

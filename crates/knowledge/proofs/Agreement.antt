@@ -20,7 +20,7 @@ use Rattle.knowledge.specs.Promises.{Alike}
 use Rattle.knowledge.proofs.ViewLaws.{view-receives}
 use Rattle.knowledge.proofs.ChainLaws.{stage-start, stage-known}
 use Rattle.knowledge.proofs.KnownTheory.{known-grows, clean-delivers, clean-seen}
-use Rattle.knowledge.proofs.CriticalTime.{core-has, core-from}
+use Rattle.knowledge.proofs.CriticalTime.{delay, saved, core-has, core-from}
 use Rattle.knowledge.proofs.OutcomeTheory.{answer-fixed}
 use Rattle.knowledge.proofs.SoundChain.{Sound, clean-outside, start-within, stage-sound}
 
@@ -29,14 +29,14 @@ module _ (farm : Farm) (fits : farm .bound < farm .seats) (ℓ : ℕ) (few : siz
 
   -- In the last round the set holds all losers, so whoever is outside it is clean.
   last-clean : (known : Seats) → Sound farm ℓ known → (g m : ℕ) → g < farm .seats → bit known g ≡ false
-      → m + (farm .bound + 1) ≡ ℓ + size (farm .seats) known → suc m ≡ ℓ → bit (losersBy farm (time ℓ)) g ≡ false
+      → m + delay farm ≡ ℓ + saved farm known → suc m ≡ ℓ → bit (losersBy farm (time ℓ)) g ≡ false
   last-clean known s g m hg f at last =
       false-back (bit (losersBy farm (time ℓ)) g) (bit known g)
       (size-equal (farm .seats) known (losersBy farm (time ℓ)) (s .losers) (omega arith) g hg) f
 
   -- Whoever is outside has delivered to a clean seat in the round after the critical time.
   outside-heard : (known : Seats) → Sound farm ℓ known → (r g m x : ℕ) → r < farm .seats → bit (losersBy farm (time ℓ)) r ≡ false
-      → g < farm .seats → bit known g ≡ false → m + (farm .bound + 1) ≡ ℓ + size (farm .seats) known
+      → g < farm .seats → bit known g ≡ false → m + delay farm ≡ ℓ + saved farm known
       → view farm g m x ≤ view farm r (suc m) x
   outside-heard known s r g m x hr clean hg f at = by (eq-or-lt-of-le done)
     where
@@ -59,7 +59,7 @@ module _ (farm : Farm) (fits : farm .bound < farm .seats) (ℓ : ℕ) (few : siz
   core-seen known s p hp x j h = lt-of-lt-of-le (c .5) (by (eq-or-lt-of-le done))
     where
       c : (g : ℕ) × (m : ℕ) × (g < farm .seats) × (bit known g ≡ false)
-          × (m + (farm .bound + 1) ≡ ℓ + size (farm .seats) known) × (j < view farm g m x)
+          × (m + delay farm ≡ ℓ + saved farm known) × (j < view farm g m x)
       c = core-from farm ℓ known (s .falling .within) x j h
 
       done : suc (c .1) ≤ ℓ
@@ -78,7 +78,7 @@ module _ (farm : Farm) (fits : farm .bound < farm .seats) (ℓ : ℕ) (few : siz
   core-kept known larger s l less x j h =
       let c = core-from farm ℓ known (s .falling .within) x j h in
       let r = one-clean in
-      let late : suc (c .1) + (farm .bound + 1) ≤ ℓ + size (farm .seats) larger = omega (arith, c .4) in
+      let late : suc (c .1) + delay farm ≤ ℓ + saved farm larger = omega (arith, c .4) in
       lt-of-lt-of-le (c .5)
       (le-trans (outside-heard known s (r .0) (c .0) (c .1) x (r .1) (r .2) (c .2) (c .3) (c .4))
       (core-has farm ℓ larger (l .falling .within) (r .0) (suc (c .1)) x (r .1) (clean-outside farm ℓ larger l (r .0) (r .1) (r .2)) late))

@@ -20,7 +20,7 @@ use Rattle.knowledge.proofs.ViewLaws.{view-own, views-of-one}
 use Rattle.knowledge.proofs.ChainLaws.{stage-start, stage-known, stage-view}
 use Rattle.knowledge.proofs.ViewTheory.{view-own-past, view-closed, Closed, views-closed}
 use Rattle.knowledge.proofs.KnownTheory.{known-below, known-grows, unknown-delivers}
-use Rattle.knowledge.proofs.CriticalTime.{core-has, core-from}
+use Rattle.knowledge.proofs.CriticalTime.{delay, saved, core-has, core-from}
 
 -- A known set within the bound from which the next step only takes seats out.
 pub record Falling (farm : Farm) (ℓ : ℕ) (known : Seats) : Type 0 where
@@ -53,7 +53,7 @@ core-shrinks farm fits ℓ known f q j h = by (change-falls farm ℓ known f)
     by (inr less) =
         let c = core-from farm ℓ (next farm ℓ known) (le-trans (le-of-lt less) (f .within)) q j h in
         let r = size-misses (farm .seats) known (lt-of-le-of-lt (f .within) fits) in
-        let late : suc (c .1) + (farm .bound + 1) ≤ ℓ + size (farm .seats) known = omega (arith, c .4) in
+        let late : suc (c .1) + delay farm ≤ ℓ + saved farm known = omega (arith, c .4) in
         let seen = lt-of-lt-of-le (view-own farm (r .0) (suc (c .1))) (core-has farm ℓ known (f .within) (r .0) (suc (c .1)) (r .0) (r .1) (r .2) late) in
         lt-of-lt-of-le (c .5)
         (unknown-delivers farm (coreView farm ℓ known) (core-closed farm ℓ known) (r .0) (c .0) (c .1) q (r .1) (c .2) seen (c .3))

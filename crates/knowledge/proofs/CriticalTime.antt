@@ -37,27 +37,34 @@ delayed-below ℓ d s h early = rw (minus d s h) (minus-below ℓ (d - s) (omega
 
 -- ════ The critical time ════
 
+-- Rule 3 puts the critical time t + 1 rounds back, less one round for each known seat.
+abbrev pub delay : Farm → ℕ
+delay farm = farm .bound + 1
+
+abbrev pub saved : Farm → Seats → ℕ
+saved farm known = size (farm .seats) known
+
 pub critical-time-at : (farm : Farm) (ℓ : ℕ) (known : Seats) → size (farm .seats) known ≤ farm .bound
-    → farm .bound + 1 ≤ ℓ + size (farm .seats) known
-    → criticalTime farm ℓ known ≡ pos (ℓ + size (farm .seats) known - (farm .bound + 1))
+    → delay farm ≤ ℓ + saved farm known
+    → criticalTime farm ℓ known ≡ pos (ℓ + saved farm known - delay farm)
 unfolding criticalTime
-critical-time-at farm ℓ known within begun = delayed ℓ (farm .bound + 1) (size (farm .seats) known) (omega arith) begun
+critical-time-at farm ℓ known within begun = delayed ℓ (delay farm) (saved farm known) (omega arith) begun
 
 pub critical-time-below : (farm : Farm) (ℓ : ℕ) (known : Seats) → size (farm .seats) known ≤ farm .bound
-    → ℓ + size (farm .seats) known < farm .bound + 1
-    → criticalTime farm ℓ known ≡ negsuc (farm .bound + 1 - suc (ℓ + size (farm .seats) known))
+    → ℓ + saved farm known < delay farm
+    → criticalTime farm ℓ known ≡ negsuc (delay farm - suc (ℓ + saved farm known))
 unfolding criticalTime
-critical-time-below farm ℓ known within early = delayed-below ℓ (farm .bound + 1) (size (farm .seats) known) (omega arith) early
+critical-time-below farm ℓ known within early = delayed-below ℓ (delay farm) (saved farm known) (omega arith) early
 
 -- ════ The view at the critical time ════
 
 -- It has the view of each seat outside the set at each time up to the critical one.
 pub core-has : (farm : Farm) (ℓ : ℕ) (known : Seats) → size (farm .seats) known ≤ farm .bound
-    → (g m q : ℕ) → g < farm .seats → bit known g ≡ false → m + (farm .bound + 1) ≤ ℓ + size (farm .seats) known
+    → (g m q : ℕ) → g < farm .seats → bit known g ≡ false → m + delay farm ≤ ℓ + saved farm known
     → view farm g m q ≤ coreView farm ℓ known q
 unfolding coreView viewsOf
 core-has farm ℓ known within g m q hg f late =
-    let k : ℕ = ℓ + size (farm .seats) known - (farm .bound + 1) in
+    let k : ℕ = ℓ + saved farm known - delay farm in
     rw (critical-time-at farm ℓ known within (omega arith))
     (le-trans (view-grows farm g m k q (omega arith))
     (joined-has (farm .seats) (bit (outside (farm .seats) known)) (λ s. view farm s k) g q hg (bit-outside (farm .seats) known g hg ∙ ap not f)))
@@ -66,16 +73,16 @@ core-has farm ℓ known within g m q hg f late =
 pub core-from : (farm : Farm) (ℓ : ℕ) (known : Seats) → size (farm .seats) known ≤ farm .bound
     → (q j : ℕ) → j < coreView farm ℓ known q
     → (g : ℕ) × (m : ℕ) × (g < farm .seats) × (bit known g ≡ false)
-    × (m + (farm .bound + 1) ≡ ℓ + size (farm .seats) known) × (j < view farm g m q)
+    × (m + delay farm ≡ ℓ + saved farm known) × (j < view farm g m q)
 unfolding coreView viewsOf
-core-from farm ℓ known within q j h = by (less-or-not (ℓ + size (farm .seats) known) (farm .bound + 1))
+core-from farm ℓ known within q j h = by (less-or-not (ℓ + saved farm known) (delay farm))
   where
     k : ℕ
-    k = ℓ + size (farm .seats) known - (farm .bound + 1)
+    k = ℓ + saved farm known - delay farm
 
-    by : (ℓ + size (farm .seats) known < farm .bound + 1) ⊎ (farm .bound + 1 ≤ ℓ + size (farm .seats) known)
+    by : (ℓ + saved farm known < delay farm) ⊎ (delay farm ≤ ℓ + saved farm known)
         → (g : ℕ) × (m : ℕ) × (g < farm .seats) × (bit known g ≡ false)
-        × (m + (farm .bound + 1) ≡ ℓ + size (farm .seats) known) × (j < view farm g m q)
+        × (m + delay farm ≡ ℓ + saved farm known) × (j < view farm g m q)
     by (inl early) = absurd (not-suc-le-zero (rw (critical-time-below farm ℓ known within early) at h))
     by (inr begun) =
         let w = joined-from (farm .seats) (bit (outside (farm .seats) known)) (λ s. view farm s k) q j

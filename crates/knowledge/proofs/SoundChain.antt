@@ -20,7 +20,7 @@ use Rattle.knowledge.proofs.ViewLaws.{view-own}
 use Rattle.knowledge.proofs.KnownLaws.{known-intro}
 use Rattle.knowledge.proofs.ChainLaws.{stage-start, stage-known}
 use Rattle.knowledge.proofs.KnownTheory.{known-lost, clean-seen}
-use Rattle.knowledge.proofs.CriticalTime.{core-has}
+use Rattle.knowledge.proofs.CriticalTime.{delay, saved, core-has}
 use Rattle.knowledge.proofs.ChainTheory.{Falling, change-falls, next-falls, stage-falls}
 
 -- A set of a chain under the premise: it holds losers only, and whoever is outside it has delivered to each clean seat in the
@@ -29,7 +29,7 @@ pub record Sound (farm : Farm) (ℓ : ℕ) (known : Seats) : Type 0 where
   pub falling : Falling farm ℓ known
   pub losers : Subset (farm .seats) known (losersBy farm (time ℓ))
   pub heard : (r g m : ℕ) → r < farm .seats → bit (losersBy farm (time ℓ)) r ≡ false → g < farm .seats
-      → m + (farm .bound + 1) ≤ ℓ + size (farm .seats) known → suc m < ℓ → farm .lost (suc m) g r ≡ true → bit known g ≡ true
+      → m + delay farm ≤ ℓ + saved farm known → suc m < ℓ → farm .lost (suc m) g r ≡ true → bit known g ≡ true
 
 -- A clean seat is outside.
 pub clean-outside : (farm : Farm) (ℓ : ℕ) (known : Seats) → Sound farm ℓ known → (r : ℕ) → r < farm .seats

@@ -20,7 +20,7 @@ use Rattle.record.specs.declared.edits.Before.{Before}
 use Rattle.record.specs.declared.edits.Before.the-variants.{Nothing, This}
 use Rattle.record.specs.Edits.{follows}
 use Rattle.record.specs.Faults.{lastOf}
-use Rattle.record.specs.Losses.{goodSet}
+use Rattle.record.specs.Losses.{firstSeat, seatAfter, goodSet}
 use Rattle.record.specs.Good.{senderAfter, goodSets, goodEdit, goodEdits, goodRecord}
 use Rattle.record.specs.Record.{Record}
 use Rattle.record.specs.Writing.{Verdict, accepted, unless}
@@ -48,30 +48,30 @@ all-pass ((passes, refusal) ∷ tests) e =
 -- ════ Senders ════
 
 -- The sender after so many sets.
-senderIn : (n sender count : ℕ) → ℕ
+senderIn : (n : ℕ) → Seat → (count : ℕ) → Seat
 senderIn n sender zero = sender
 senderIn n sender (suc count) = senderIn n (senderAfter n sender) count
 
-sender-adds : (n a b sender : ℕ) → senderIn n sender (a + b) ≡ senderIn n (senderIn n sender a) b
+sender-adds : (n a b : ℕ) (sender : Seat) → senderIn n sender (a + b) ≡ senderIn n (senderIn n sender a) b
 unfolding senderIn
 sender-adds n zero b sender = rw (zero-add b)
 sender-adds n (suc a) b sender = let e : suc a + b ≡ suc (a + b) = omega arith in rw e (sender-adds n a b (senderAfter n sender))
 
 -- The rest of a round leads back to the first sender.
-round-ends : (n left sender : ℕ) → sender + suc left ≡ n → senderIn n sender (suc left) ≡ 0
+round-ends : (n left : ℕ) (sender : Seat) → sender .0 + suc left ≡ n → senderIn n sender (suc left) ≡ firstSeat
 unfolding senderIn senderAfter
-round-ends n zero sender e = rw (eq-eqb (suc sender) n (omega arith))
+round-ends n zero sender e = rw (eq-eqb (suc (sender .0)) n (omega arith))
 round-ends n (suc left) sender e =
-    rw (ne-eqb (suc sender) n (λ f. omega arith)) (round-ends n left (suc sender) (omega arith))
+    rw (ne-eqb (suc (sender .0)) n (λ f. omega arith)) (round-ends n left (seatAfter sender) (omega arith))
 
-rounds-end : (n R : ℕ) → 0 < n → senderIn n 0 (n * R) ≡ 0
+rounds-end : (n R : ℕ) → 0 < n → senderIn n firstSeat (n * R) ≡ firstSeat
 unfolding senderIn
 rounds-end zero R h = absurd (not-suc-le-zero h)
 rounds-end (suc n) zero h = rw mul-zero
 rounds-end (suc n) (suc R) h =
-    rw (mul-suc (suc n) R, sender-adds (suc n) (suc n * R) (suc n) 0, rounds-end (suc n) R h) (round-ends (suc n) n 0 (zero-add (suc n)))
+    rw (mul-suc (suc n) R, sender-adds (suc n) (suc n * R) (suc n) firstSeat, rounds-end (suc n) R h) (round-ends (suc n) n firstSeat (zero-add (suc n)))
 
-sets-append : (n sender : ℕ) (a b : List Seats) → goodSets n sender a ≡ true → goodSets n (senderIn n sender (length a)) b ≡ true
+sets-append : (n : ℕ) (sender : Seat) (a b : List Seats) → goodSets n sender a ≡ true → goodSets n (senderIn n sender (length a)) b ≡ true
     → goodSets n sender (a ++ b) ≡ true
 unfolding goodSets senderIn
 sets-append n sender [] b p q = q
@@ -125,7 +125,7 @@ round-good sets r (a, (b, (c, (d, none)))) =
     let whole : goodRecord limits r ≡ true = cc in
     let room : ltb (r .header .rounds) (limits .mostRounds) ≡ true = cc in
     let fits : eqb (length sets) (r .header .seats) ≡ true = cc in
-    let sound : goodSets (r .header .seats) 0 sets ≡ true = cc in
+    let sound : goodSets (r .header .seats) firstSeat sets ≡ true = cc in
     let f = record-facts limits r whole in
     let h = header-facts limits (r .header) (f .header) in
     let less : r .header .rounds < limits .mostRounds = ltb-true _ _ room in
@@ -134,7 +134,7 @@ round-good sets r (a, (b, (c, (d, none)))) =
       header = header-from-facts limits (withRound sets r .header) (record { fewest = h .fewest; most = h .most; bound = h .bound; rounds = omega arith; edits = h .edits });
       lossCount = rw (length-append, f .lossCount, long) (omega arith);
       losses =
-          sets-append (r .header .seats) 0 (r .losses) sets (f .losses)
+          sets-append (r .header .seats) firstSeat (r .losses) sets (f .losses)
           (rw (f .lossCount, rounds-end (r .header .seats) (r .header .rounds) (omega (arith, h .fewest))) sound);
       editCount = f .editCount;
       edits = edits-with-round limits (r .header .seats) (r .header .rounds) Nothing (r .edits) (f .edits);

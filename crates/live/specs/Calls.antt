@@ -15,6 +15,7 @@ use Rattle.record.specs.declared.edits.Edit.{Edit}
 use Rattle.record.specs.declared.edits.Before.the-variants.{Nothing}
 use Rattle.record.specs.Edits.{follows}
 use Rattle.record.specs.Faults.{lastOf}
+use Rattle.record.specs.Losses.{firstSeat}
 use Rattle.record.specs.Good.{goodHeader, goodSets, goodEdit, goodRecord}
 use Rattle.record.specs.Record.{Record}
 use Rattle.record.specs.Tables.{over}
@@ -85,7 +86,7 @@ abbrev pub round10 : List Seats → Record → Test
 round10 sets r = (eqb (length sets) (r .header .seats), BadLengths)
 
 abbrev pub round4 : List Seats → Record → Test
-round4 sets r = (goodSets (r .header .seats) 0 sets, BadLossSet)
+round4 sets r = (goodSets (r .header .seats) firstSeat sets, BadLossSet)
 
 abbrev pub edit3 : Edit → Record → Test
 edit3 e r = (goodEdit limits (r .header .seats) (r .header .rounds) e, OutOfRange)

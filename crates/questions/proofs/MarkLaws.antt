@@ -35,9 +35,9 @@ module _ (farm : Farm) (seats times : List ℕ) (p : Seat) (ℓ : Time) where
 pub marks-of-edits : (core : View) (edits : List Edit) → marksOf core edits ≡ marksIn core (seatsOf edits) (timesOf edits)
 unfolding marksOf marksIn markAt seatsOf timesOf inCore hasPlace
 marks-of-edits core [] = refl
-marks-of-edits core (e ∷ edits) = ap (λ (l : List ℕ). markAt core (e .seat .0) (e .time .0) ∷ l) (marks-of-edits core edits)
+marks-of-edits core (e ∷ edits) = ap (λ (l : List ℕ). markAt core (e .seat) (e .time) ∷ l) (marks-of-edits core edits)
 
 pub count-of-edits : (core : View) (edits : List Edit) → countOf core edits ≡ countIn core (seatsOf edits) (timesOf edits)
 unfolding countOf countIn markAt seatsOf timesOf inCore hasPlace
 count-of-edits core [] = refl
-count-of-edits core (e ∷ edits) = ap (λ (k : ℕ). markAt core (e .seat .0) (e .time .0) + k) (count-of-edits core edits)
+count-of-edits core (e ∷ edits) = ap (λ (k : ℕ). markAt core (e .seat) (e .time) + k) (count-of-edits core edits)

@@ -11,16 +11,15 @@ use telling::times::put_times;
 use viewing::sizes::Sizes;
 use viewing::views::view_of;
 ghost use mathlib.Core.Path.{_≡_};
-ghost use mathlib.Core.Bool.{_&&_};
-ghost use lib.Dec.{ltb, leb};
+ghost use mathlib.Core.List.{[]};
 ghost use Rattle.viewing.specs.Counts.{farmFor};
-ghost use Rattle.questions.specs.Question.{byValue, refused, viewIn, knownIn, loserIn};
+ghost use Rattle.questions.specs.Question.{byValue, refused, isPlace, viewIn, knownIn, loserIn};
 ghost use Rattle.questions.specs.Accepted.{Accepted};
 ghost use Rattle.questions.specs.Answers.{Fills, seenAnswer, standingAnswer};
 
-// Whether a seat is below n and a time at most R: where not, 8 is given.
+// Whether a seat is below n and a time at most R, whatever was lost: where not, 8 is given.
 pub fn is_place(sizes: Sizes, seat: Seat, time: Time) -> bool
-    ensures { λ r. ⌜ r ≡ (ltb (seat .0) (sizes .seats) && leb (time .0) (sizes .rounds)) ⌝ }
+    ensures { λ r. ⌜ r ≡ isPlace (farmFor sizes []) seat time ⌝ }
 {
     if seat.0 >= sizes.seats {
         return false;

@@ -10,6 +10,7 @@ use lib.ListN.{length, drop, set, length-set}
 use Rattle.farm.specs.Limits.{limits}
 use Rattle.farm.specs.declared.refusals.Refusal.{Refusal}
 use Rattle.farm.specs.declared.refusals.Refusal.the-variants.{BadOrder}
+use Rattle.checking.specs.declared.answers.Passed.{Passed}
 use Rattle.checking.specs.declared.answers.Passed.the-variants.{To}
 use Rattle.record.specs.declared.edits.Edit.{Edit}
 use Rattle.record.specs.declared.edits.Before.{Before}
@@ -19,11 +20,16 @@ use Rattle.record.specs.Numbers.{takeNumber}
 use Rattle.record.specs.Edits.{follows, takeEdit, takeEdits}
 use Rattle.reading.specs.Filling.{Gives, given, takeNumbers, AllBelow, EditsFilled}
 use Rattle.record.specs.Tables.{Tables, tables, over, seatsOf, timesOf, cellsOf, changesOf}
+use Rattle.numbers.specs.Cursors.{cursorAt}
 use Rattle.checking.specs.Parts.{passedIn}
 use Rattle.record.proofs.TakingLaws.{bind-value, value-not-refused}
 use Rattle.numbers.proofs.CursorLaws.{cursor-drop, Placed}
-use Rattle.checking.proofs.PassedLaws.{passed-mapped}
 use Rattle.record.proofs.TableLaws.{over-none, over-first, Column, column-start, column-on, column-end}
+
+-- Nothing is left to take: the place that was come to is where all that was to be taken ended.
+come-to : (bytes : List ℕ) (at : ℕ) (rest : List ℕ) (p : Passed) → at ≤ length bytes → drop at bytes ≡ rest → p ≡ To (cursorAt bytes rest)
+    → To (record { at = at }) ≡ p
+come-to bytes at rest p inside e f = sym (f ∙ rw (← e, cursor-drop bytes at inside))
 
 -- ════ Loss sets ════
 
@@ -41,11 +47,11 @@ pub record SetsLeft (bytes : List ℕ) (count at i : ℕ) (old present : List �
   pub inside : at ≤ length bytes
   pub kept : length present ≡ length old
   pub same : over i left present ≡ over 0 (given (takeNumbers limits count bytes)) old
-  pub ends : passedIn bytes (takeNumbers limits (count - i) (drop at bytes)) ≡ passedIn bytes (takeNumbers limits count bytes)
+  pub ends : passedIn bytes (takeNumbers limits count bytes) ≡ To (cursorAt bytes rest)
 
 pub sets-start : (bytes : List ℕ) (count : ℕ) (old : List ℕ) → Gives (takeNumbers limits count bytes)
     → AllBelow 65536 (given (takeNumbers limits count bytes)) → SetsLeft bytes count 0 0 old old
-unfolding given
+unfolding given passedIn
 sets-start bytes count old gives small =
     record {
       left = gives .what;
@@ -56,18 +62,18 @@ sets-start bytes count old gives small =
       inside = omega arith;
       kept = refl;
       same = rw (gives .took);
-      ends = rw sub-zero;
+      ends = rw (gives .took);
     }
 
 module _ (bytes : List ℕ) (count at i : ℕ) (old present : List ℕ) (s : SetsLeft bytes count at i old present) where
   pub sets-end : count ≤ i → (To (record { at = at }) ≡ passedIn bytes (takeNumbers limits count bytes))
       × (present ≡ over 0 (given (takeNumbers limits count bytes)) old)
-  unfolding takeNumbers passedIn
+  unfolding takeNumbers
   sets-end h =
       let none : count - i ≡ 0 = omega arith in
       let took : value [] (drop at bytes) ≡ value (s .left) (s .rest) = rw none at (s .took) in
       let empty : [] ≡ s .left = cc in (
-        rw (none, cursor-drop bytes at (s .inside)) at (s .ends),
+        come-to bytes at (s .rest) _ (s .inside) (cc) (s .ends),
         sym (over-none i present) ∙ ap (λ (l : List ℕ). over i l present) empty ∙ s .same,
       )
 
@@ -107,13 +113,9 @@ module _ (bytes : List ℕ) (count at i : ℕ) (old present : List ℕ) (s : Set
             inside = was .inside;
             kept = length-set present i v ∙ s .kept;
             same = sym (over-first i v (y .0) present long) ∙ ap (λ (l : List ℕ). over i l present) front ∙ s .same;
-            ends = passed-on later ∙ s .ends;
+            ends = s .ends;
           },
         )
-      where
-        passed-on : {later : List ℕ} → takeNumbers limits (count - (i + 1)) (drop next bytes) ≡ value later (s .rest)
-            → passedIn bytes (takeNumbers limits (count - (i + 1)) (drop next bytes)) ≡ passedIn bytes (takeNumbers limits (count - i) (drop at bytes))
-        passed-on e = rw (next-left, was .took) (sym (passed-mapped bytes (takeNumbers limits (count - (i + 1)) (drop next bytes)) (λ more-sets. v ∷ more-sets)))
 
 -- ════ Edits ════
 
@@ -125,6 +127,7 @@ pub record EditsLeft (bytes : List ℕ) (n R count at i : ℕ) (old present : Ta
   pub took : takeEdits limits n R (count - i) before (drop at bytes) ≡ value left rest
   pub within : i ≤ count
   pub inside : at ≤ length bytes
+  pub ends : passedIn bytes (takeEdits limits n R count Nothing bytes) ≡ To (cursorAt bytes rest)
   pub seats : Column i (seatsOf left) (seatsOf (given (takeEdits limits n R count Nothing bytes))) (old .seats) (present .seats)
   pub times : Column i (timesOf left) (timesOf (given (takeEdits limits n R count Nothing bytes))) (old .times) (present .times)
   pub cells : Column i (cellsOf left) (cellsOf (given (takeEdits limits n R count Nothing bytes))) (old .cells) (present .cells)
@@ -132,7 +135,7 @@ pub record EditsLeft (bytes : List ℕ) (n R count at i : ℕ) (old present : Ta
 
 pub edits-start : (bytes : List ℕ) (n R count : ℕ) (old : Tables) → Gives (takeEdits limits n R count Nothing bytes)
     → EditsLeft bytes n R count 0 0 old old
-unfolding given
+unfolding given passedIn
 edits-start bytes n R count old gives =
     record {
       left = gives .what;
@@ -141,6 +144,7 @@ edits-start bytes n R count old gives =
       took = rw sub-zero (gives .took);
       within = omega arith;
       inside = omega arith;
+      ends = rw (gives .took);
       seats = rw (gives .took) (column-start (seatsOf (gives .what)) (old .seats));
       times = rw (gives .took) (column-start (timesOf (gives .what)) (old .times));
       cells = rw (gives .took) (column-start (cellsOf (gives .what)) (old .cells));
@@ -162,18 +166,21 @@ edits-split n R left before bytes edits rest e after h q =
     by false t f = absurd (value-not-refused edits rest BadOrder (sym f))
 
 module _ (bytes : List ℕ) (n R count at i : ℕ) (old present : Tables) (s : EditsLeft bytes n R count at i old present) where
-  pub edits-filled : count ≤ i → EditsFilled (given (takeEdits limits n R count Nothing bytes)) old present
+  pub edits-filled : count ≤ i → (To (record { at = at }) ≡ passedIn bytes (takeEdits limits n R count Nothing bytes))
+      × EditsFilled (given (takeEdits limits n R count Nothing bytes)) old present
   unfolding takeEdits seatsOf timesOf cellsOf changesOf
   edits-filled h =
       let none : count - i ≡ 0 = omega arith in
       let took : value [] (drop at bytes) ≡ value (s .left) (s .rest) = rw none at (s .took) in
-      let empty : s .left ≡ [] = cc in
-      record {
-        seats = column-end i _ (old .seats) (present .seats) (rw empty at (s .seats));
-        times = column-end i _ (old .times) (present .times) (rw empty at (s .times));
-        cells = column-end i _ (old .cells) (present .cells) (rw empty at (s .cells));
-        changes = column-end i _ (old .changes) (present .changes) (rw empty at (s .changes));
-      }
+      let empty : s .left ≡ [] = cc in (
+        come-to bytes at (s .rest) _ (s .inside) (cc) (s .ends),
+        record {
+          seats = column-end i _ (old .seats) (present .seats) (rw empty at (s .seats));
+          times = column-end i _ (old .times) (present .times) (rw empty at (s .times));
+          cells = column-end i _ (old .cells) (present .cells) (rw empty at (s .cells));
+          changes = column-end i _ (old .changes) (present .changes) (rw empty at (s .changes));
+        },
+      )
 
   module _ (more : i < count) where
     -- The next edit was accepted.
@@ -211,6 +218,7 @@ module _ (bytes : List ℕ) (n R count at i : ℕ) (old present : Tables) (s : E
               took = took;
               within = omega arith;
               inside = was .inside;
+              ends = s .ends;
               seats = column-on i _ _ _ (old .seats) (present .seats) (omega arith) (rw front at (s .seats));
               times = column-on i _ _ _ (old .times) (present .times) (omega arith) (rw front at (s .times));
               cells = column-on i _ _ _ (old .cells) (present .cells) (omega arith) (rw front at (s .cells));

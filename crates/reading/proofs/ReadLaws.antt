@@ -1,40 +1,44 @@
 -- A good reading and its parts, as the second pass meets them.
 -- Assumes nothing.
 use mathlib.Core.Path.{_≡_, refl, sym, _∙_, ap, ap₂, subst}
-use mathlib.Core.Bool.{Bool, true, false}
+use mathlib.Core.Bool.{true, false}
 use mathlib.Core.List.{List, [], _∷_, _++_}
 use Prim.Native.Nat.{ℕ, zero, suc, _+_, _-_, _*_, _^_, _<_, _≤_}
 use native.Mathlib.Nat.{lt-of-lt-of-le, pow-le-pow-right, suc-mul, zero-mul, zero-add, suc-add, add-comm, mul-le-mul}
 use native.Mathlib.Omega.{arith}
-use lib.Dec.{leb, ltb, lit<}
+use lib.Dec.{leb, lit<}
 use lib.ListN.{length, drop}
-use borrow.Author.Tests.{leb-true, le-leb, ltb-true}
+use borrow.Author.Tests.{leb-true, le-leb, lt-leb}
 use Rattle.farm.specs.Limits.{Limits, limits}
 use Rattle.farm.specs.Sets.{Seats}
+use Rattle.farm.specs.declared.places.Seat.{Seat}
 use Rattle.farm.specs.declared.refusals.Refusal.{Refusal}
 use Rattle.farm.proofs.Cases.{and-elim}
 use Rattle.numbers.specs.declared.read.Cursor.{Cursor}
-use Rattle.checking.specs.declared.answers.Passed.the-variants.{To}
+use Rattle.checking.specs.declared.answers.Passed.{Passed}
+use Rattle.checking.specs.declared.answers.Passed.the-variants.{To, Refused as PassedRefused}
 use Rattle.record.specs.declared.header.Header.{Header}
 use Rattle.record.specs.declared.edits.Edit.{Edit}
 use Rattle.record.specs.declared.edits.Before.the-variants.{Nothing}
 use Rattle.record.specs.Taking.{Taken, value, refused, _>>=_}
 use Rattle.record.specs.Numbers.{takeNumber}
 use Rattle.record.specs.Header.{takeHeader}
-use Rattle.record.specs.Losses.{goodSet, takeSet, takeRound, takeRounds}
+use Rattle.record.specs.Losses.{firstSeat, seatAfter, takeSet, takeRound, takeRounds}
 use Rattle.record.specs.Edits.{takeEdits}
 use Rattle.record.specs.Record.{Record, Reading, good, bad, takeRecord, whole, readingOf}
 use Rattle.reading.specs.Filling.{Gives, given, takeNumbers, AllBelow, EditsFilled}
 use Rattle.record.specs.Tables.{Tables, over, seatsOf, timesOf, cellsOf, changesOf, roomy, readInto, tablesAfter, TablesRead, Accepted}
-use Rattle.reading.specs.Outcome.{ReadOutcome}
+use Rattle.reading.specs.Outcome.{roomFor, ReadOutcome}
 use Rattle.numbers.specs.Cursors.{cursorAt}
 use Rattle.checking.specs.Parts.{passedIn}
 use Rattle.record.specs.Answers.{checkedOf}
 use Rattle.record.specs.declared.answers.Checked.{Checked}
 use Rattle.record.specs.declared.answers.Checked.the-variants.{Good, Refused as CheckedRefused}
 use Rattle.farm.specs.declared.refusals.Refusal.the-variants.{NoRoom}
-use Rattle.record.proofs.TakingLaws.{bind-value, Tail, tail-drop}
+use Rattle.record.proofs.TakingLaws.{bind-value, value-not-refused, Tail, tail-drop}
+use Rattle.record.proofs.GoodLaws.{set-facts}
 use Rattle.record.proofs.LossLaws.{set-took, rounds-tail}
+use Rattle.checking.proofs.PassedLaws.{passed-was-refused}
 use Rattle.checking.proofs.RecordLaws.{from, from-is, Head}
 
 -- ════ A good reading comes apart ════
@@ -91,12 +95,8 @@ unfolding AllBelow
 all-below-more low high [] h a = tt
 all-below-more low high (x ∷ xs) h a = (lt-of-lt-of-le (a .0) h, all-below-more low high xs h (a .1))
 
-good-set-below : (n sender set : ℕ) → goodSet n sender set ≡ true → set < 2 ^ n
-unfolding goodSet
-good-set-below n sender set e = ltb-true set (2 ^ n) (and-elim (ltb set (2 ^ n)) _ e .0)
-
 module _ (L : Limits) where
-  round-numbers : (n sender left : ℕ) (bytes : List ℕ) (sets : List Seats) (rest : List ℕ) → takeRound L n sender left bytes ≡ value sets rest
+  round-numbers : (n : ℕ) (sender : Seat) (left : ℕ) (bytes : List ℕ) (sets : List Seats) (rest : List ℕ) → takeRound L n sender left bytes ≡ value sets rest
       → (takeNumbers L left bytes ≡ value sets rest) × AllBelow (2 ^ n) sets
   unfolding takeRound takeNumbers _>>=_ AllBelow
   round-numbers n sender zero bytes sets rest e =
@@ -104,12 +104,12 @@ module _ (L : Limits) where
       (e, subst (λ (l : List ℕ). AllBelow (2 ^ n) l) none tt)
   round-numbers n sender (suc left) bytes sets rest e =
       let x = bind-value (takeSet L n sender bytes) _ sets rest e in
-      let y = bind-value (takeRound L n (suc sender) left (x .1)) _ sets rest (x .3) in
+      let y = bind-value (takeRound L n (seatAfter sender) left (x .1)) _ sets rest (x .3) in
       let was = set-took L n sender bytes (x .0) (x .1) (x .2) in
-      let later = round-numbers n (suc sender) left (x .1) (y .0) (y .1) (y .2) in
+      let later = round-numbers n (seatAfter sender) left (x .1) (y .0) (y .1) (y .2) in
       let front : x .0 ∷ y .0 ≡ sets = cc in (
         rw (was .0, later .0) (y .3),
-        subst (λ (l : List ℕ). AllBelow (2 ^ n) l) front (good-set-below n sender (x .0) (was .1), later .1),
+        subst (λ (l : List ℕ). AllBelow (2 ^ n) l) front (set-facts n sender (x .0) (was .1), later .1),
       )
 
   pub rounds-numbers : (n rounds : ℕ) (bytes : List ℕ) (sets : List Seats) (rest : List ℕ) → takeRounds L n rounds bytes ≡ value sets rest
@@ -119,9 +119,9 @@ module _ (L : Limits) where
       let none : [] ≡ sets = cc in
       (rw zero-mul e, subst (λ (l : List ℕ). AllBelow (2 ^ n) l) none tt)
   rounds-numbers n (suc rounds) bytes sets rest e =
-      let x = bind-value (takeRound L n 0 n bytes) _ sets rest e in
+      let x = bind-value (takeRound L n firstSeat n bytes) _ sets rest e in
       let y = bind-value (takeRounds L n rounds (x .1)) _ sets rest (x .3) in
-      let first = round-numbers n 0 n bytes (x .0) (x .1) (x .2) in
+      let first = round-numbers n firstSeat n bytes (x .0) (x .1) (x .2) in
       let later = rounds-numbers n rounds (x .1) (y .0) (y .1) (y .2) in
       let front : x .0 ++ y .0 ≡ sets = cc in
       let ends : y .1 ≡ rest = cc in
@@ -172,11 +172,12 @@ pub record EditsReady (bytes : List ℕ) (h : Header) (at next : ℕ) (r : Recor
   pub inside : next ≤ length (from at bytes)
   pub edits : takeEdits limits (h .seats) (h .rounds) (h .edits) Nothing (from next (from at bytes)) ≡ value (r .edits) []
 
-pub edits-ready : (bytes : List ℕ) (h : Header) (at : ℕ) (next : Cursor) (r : Record) → Ready bytes h at r
-    → To next ≡ passedIn (from at bytes) (takeNumbers limits (h .rounds * h .seats) (from at bytes)) → EditsReady bytes h at (next .at) r
+pub edits-ready : (bytes : List ℕ) (h : Header) (at : ℕ) (passed : Passed) (next : Cursor) (r : Record) → Ready bytes h at r
+    → passed ≡ passedIn (from at bytes) (takeNumbers limits (h .rounds * h .seats) (from at bytes)) → passed ≡ To next
+    → EditsReady bytes h at (next .at) r
 unfolding passedIn
-edits-ready bytes h at next r w e =
-    let place : To next ≡ To (cursorAt (from at bytes) (w .after-losses)) = e ∙ ap (passedIn (from at bytes)) (w .numbers) in
+edits-ready bytes h at passed next r w e f =
+    let place : To next ≡ To (cursorAt (from at bytes) (w .after-losses)) = sym f ∙ e ∙ ap (passedIn (from at bytes)) (w .numbers) in
     let where-next : next ≡ cursorAt (from at bytes) (w .after-losses) = cc in
     let at-next : next .at ≡ length (from at bytes) - length (w .after-losses) = ap (λ (c : Cursor). c .at) where-next in
     record {
@@ -186,6 +187,21 @@ edits-ready bytes h at next r w e =
           (from-is (next .at) (from at bytes) ∙ ap (λ (k : ℕ). drop k (from at bytes)) at-next ∙ tail-drop (w .tail))
           ∙ w .edits;
     }
+
+-- A part that gives a value is not refused.
+pub part-not-refused : {A : Type 0} (bytes : List ℕ) (t : Taken A) (a : A) (rest : List ℕ) (passed : Passed) (x : Refusal) → t ≡ value a rest
+    → passed ≡ passedIn bytes t → passed ≡ PassedRefused x → ⊥
+part-not-refused bytes t a rest passed x e p f = value-not-refused a rest x (sym e ∙ passed-was-refused bytes t x (sym p ∙ f))
+
+-- The answer of a good reading has the header that was read.
+pub good-answer : (bytes : List ℕ) (h : Header) (at : ℕ) (a : Accepted (readingOf limits bytes)) → Head bytes h at
+    → Good h ≡ checkedOf (readingOf limits bytes)
+unfolding checkedOf
+good-answer bytes h at a head =
+    let p = good-parts limits bytes (a .what) (a .is) in
+    let met : value h (from at bytes) ≡ value (a .what .header) (p .after-header) = sym (head .took) ∙ p .header in
+    let same : h ≡ a .what .header = cc in
+    rw (a .is) (ap Good same)
 
 -- ════ Room ════
 
@@ -211,16 +227,25 @@ room t e =
       changes = leb-true _ _ (d .1);
     }
 
-pub enough : (t : Tables) → Room t → roomy limits t ≡ true
-unfolding roomy
-enough t w =
-    rw (
-      le-leb 889 (length (t .losses)) (w .losses),
-      le-leb 512 (length (t .seats)) (w .seats),
-      le-leb 512 (length (t .times)) (w .times),
-      le-leb 512 (length (t .cells)) (w .cells),
-      le-leb 512 (length (t .changes)) (w .changes),
-    )
+-- Which test decides, from the lengths.
+module _ (losses seats times cells changes : ℕ) where
+  pub few-losses : losses < 889 → roomFor losses seats times cells changes ≡ false
+  few-losses l = rw (lt-leb 889 losses l)
+
+  module _ (a : 889 ≤ losses) where
+    pub few-seats : seats < 512 → roomFor losses seats times cells changes ≡ false
+    few-seats l = rw (le-leb 889 losses a, lt-leb 512 seats l)
+
+    module _ (b : 512 ≤ seats) where
+      pub few-times : times < 512 → roomFor losses seats times cells changes ≡ false
+      few-times l = rw (le-leb 889 losses a, le-leb 512 seats b, lt-leb 512 times l)
+
+      module _ (c : 512 ≤ times) where
+        pub few-cells : cells < 512 → roomFor losses seats times cells changes ≡ false
+        few-cells l = rw (le-leb 889 losses a, le-leb 512 seats b, le-leb 512 times c, lt-leb 512 cells l)
+
+        pub changes-decide : 512 ≤ cells → roomFor losses seats times cells changes ≡ leb 512 changes
+        changes-decide d = rw (le-leb 889 losses a, le-leb 512 seats b, le-leb 512 times c, le-leb 512 cells d)
 
 -- ════ The tables afterwards ════
 
@@ -254,23 +279,19 @@ sets-ready bytes h at r w = (record { what = r .losses; rest = w .after-losses; 
 -- ════ Reading into tables ════
 
 -- Too little room anywhere is refusal 7, and leaves all tables.
-pub no-room : (bytes : List ℕ) (t : Tables) → (Room t → ⊥) → ReadOutcome bytes t (CheckedRefused NoRoom) t
+pub no-room : (bytes : List ℕ) (t : Tables) → roomy limits t ≡ false → ReadOutcome bytes t (CheckedRefused NoRoom) t
 unfolding readInto checkedOf
-no-room bytes t h = by (roomy limits t) refl
-  where
-    by : (b : Bool) → roomy limits t ≡ b → ReadOutcome bytes t (CheckedRefused NoRoom) t
-    by true e = absurd (h (room t e))
-    by false e = record { answered = rw e; left = tables-kept _ NoRoom t (rw e) }
+no-room bytes t e = record { answered = rw e; left = tables-kept _ NoRoom t (rw e) }
 
 -- With room, the record's own refusal leaves all tables too.
-pub refused-reading : (bytes : List ℕ) (t : Tables) (answer : Checked) (x : Refusal) → Room t → answer ≡ checkedOf (readingOf limits bytes)
+pub refused-reading : (bytes : List ℕ) (t : Tables) (answer : Checked) (x : Refusal) → roomy limits t ≡ true → answer ≡ checkedOf (readingOf limits bytes)
     → answer ≡ CheckedRefused x → ReadOutcome bytes t answer t
 unfolding readInto checkedOf
 refused-reading bytes t answer x w e f = by (readingOf limits bytes) refl
   where
     by : (reading : Reading) → readingOf limits bytes ≡ reading → ReadOutcome bytes t answer t
     by (good r) g = let no : Good (r .header) ≡ CheckedRefused x = sym (e ∙ ap checkedOf g) ∙ f in let z : _≡_ {A = ℕ} 0 1 = cc in absurd (omega arith)
-    by (bad r) g = record { answered = rw (enough t w) e; left = tables-kept _ r t (rw (enough t w) g) }
+    by (bad r) g = record { answered = rw w e; left = tables-kept _ r t (rw w g) }
 
 pub accepted-reading : (bytes : List ℕ) (answer : Checked) (h : Header) → answer ≡ checkedOf (readingOf limits bytes) → answer ≡ Good h
     → Accepted (readingOf limits bytes)
@@ -281,7 +302,7 @@ accepted-reading bytes answer h e f = by (readingOf limits bytes) refl
     by (good r) g = record { what = r; is = g }
     by (bad r) g = let no : CheckedRefused r ≡ Good h = sym (e ∙ ap checkedOf g) ∙ f in let z : _≡_ {A = ℕ} 0 1 = cc in absurd (omega arith)
 
-pub good-reading : (bytes : List ℕ) (before after : Tables) (answer : Checked) → Room before → answer ≡ checkedOf (readingOf limits bytes)
+pub good-reading : (bytes : List ℕ) (before after : Tables) (answer : Checked) → roomy limits before ≡ true → answer ≡ checkedOf (readingOf limits bytes)
     → TablesRead (readingOf limits bytes) before after → ReadOutcome bytes before answer after
 unfolding readInto
-good-reading bytes before after answer w e f = record { answered = rw (enough before w) e; left = rw (enough before w) f }
+good-reading bytes before after answer w e f = record { answered = rw w e; left = rw w f }

@@ -5,7 +5,12 @@ use Prim.Native.Nat.{ℕ, zero, suc, _<_}
 use Rattle.farm.specs.Limits.{Limits}
 use Rattle.record.specs.Taking.{Taken, value, refused, _>>=_}
 use Rattle.record.specs.Numbers.{takeNumber}
+use Rattle.record.specs.declared.header.Header.{Header}
 use Rattle.record.specs.declared.edits.Edit.{Edit}
+use Rattle.record.specs.declared.answers.Checked.{Checked}
+use Rattle.record.specs.declared.answers.Checked.the-variants.{Good, Refused}
+use Rattle.checking.specs.declared.answers.Passed.{Passed}
+use Rattle.checking.specs.declared.answers.Passed.the-variants.{To, Refused as PassedRefused}
 use Rattle.record.specs.Tables.{Tables, over, seatsOf, timesOf, cellsOf, changesOf}
 
 -- A taking that gives a value.
@@ -37,3 +42,8 @@ pub record EditsFilled (edits : List Edit) (before after : Tables) : Type 0 wher
   pub times : after .times ≡ over 0 (timesOf edits) (before .times)
   pub cells : after .cells ≡ over 0 (cellsOf edits) (before .cells)
   pub changes : after .changes ≡ over 0 (changesOf edits) (before .changes)
+
+-- A record with this header whose last part was gone through to its end, or refused.
+abbrev pub checkedTo : Header → Passed → Checked
+checkedTo h (To next) = Good h
+checkedTo h (PassedRefused x) = Refused x

@@ -5,8 +5,28 @@ use farm::limits::TABLE_EDITS;
 use farm::limits::TABLE_LOSS_SETS;
 use farm::refusals::Refusal;
 use record::answers::Checked;
+ghost use mathlib.Core.Path.{_≡_};
 ghost use Rattle.record.specs.Tables.{tables};
-ghost use Rattle.reading.specs.Outcome.{ReadOutcome};
+ghost use Rattle.reading.specs.Outcome.{roomFor, ReadOutcome};
+
+// Whether tables of so many entries have room for any record.
+fn has_room(losses: usize, seats: usize, times: usize, cells: usize, changes: usize) -> bool
+    ensures { λ r. ⌜ r ≡ roomFor losses seats times cells changes ⌝ }
+{
+    if losses < TABLE_LOSS_SETS {
+        return false;
+    }
+    if seats < TABLE_EDITS {
+        return false;
+    }
+    if times < TABLE_EDITS {
+        return false;
+    }
+    if cells < TABLE_EDITS {
+        return false;
+    }
+    TABLE_EDITS <= changes
+}
 
 // Entries past the used ones stay, and a refusal changes none.
 pub fn read(
@@ -19,25 +39,18 @@ pub fn read(
 ) -> Checked
     ensures { λ r. ⌜ ReadOutcome (now (bytes .entry)) (tables (now (losses .entry)) (now (seats .entry)) (now (times .entry)) (now (cells .entry)) (now (changes .entry))) r (tables (now (losses .exit)) (now (seats .exit)) (now (times .exit)) (now (cells .exit)) (now (changes .exit))) ⌝ }
 {
-    if losses.len() < TABLE_LOSS_SETS {
-        return Checked::Refused(Refusal::NoRoom);
-    }
-    if seats.len() < TABLE_EDITS {
-        return Checked::Refused(Refusal::NoRoom);
-    }
-    if times.len() < TABLE_EDITS {
-        return Checked::Refused(Refusal::NoRoom);
-    }
-    if cells.len() < TABLE_EDITS {
-        return Checked::Refused(Refusal::NoRoom);
-    }
-    if changes.len() < TABLE_EDITS {
+    if !has_room(
+        losses.len(),
+        seats.len(),
+        times.len(),
+        cells.len(),
+        changes.len(),
+    ) {
         return Checked::Refused(Refusal::NoRoom);
     }
     let checked = check(bytes);
-    let Checked::Good(header) = checked else {
+    let Checked::Good(_) = checked else {
         return checked;
     };
-    fill(bytes, losses, seats, times, cells, changes);
-    Checked::Good(header)
+    fill(bytes, losses, seats, times, cells, changes)
 }

@@ -16,7 +16,7 @@ use Rattle.record.specs.declared.edits.Before.the-variants.{Nothing, Thi
 use Rattle.record.specs.declared.answers.Judged.the-variants.{Accepted, Refused}
 use Rattle.record.specs.Lengths.{numbersLength, changesLength}
 use Rattle.record.specs.Header.{headerBytes}
-use Rattle.record.specs.Losses.{lossBytes}
+use Rattle.record.specs.Losses.{firstSeat, lossBytes}
 use Rattle.record.specs.Edits.{follows, editsBytes}
 use Rattle.record.specs.Record.{good, bytesOf}
 use Rattle.record.specs.Good.{goodEdit, goodEdits}
@@ -90,7 +90,7 @@ module _ (n t R : ℕ) (lists : Tables) where
 
     accepted-sets : length (lossBytes limits (lists .losses)) ≡ length (lists .losses)
     unfolding recordFrom
-    accepted-sets = sets-length n 0 (lists .losses) (accepted-header .most) (accepted-facts .losses)
+    accepted-sets = sets-length n firstSeat (lists .losses) (accepted-header .most) (accepted-facts .losses)
 
     accepted-edits : length (editsBytes limits (editsIn lists))
         ≡ 2 * length (lists .seats) + numbersLength limits (lists .cells) + changesLength limits (lists .changes)

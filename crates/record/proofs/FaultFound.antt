@@ -10,6 +10,7 @@ use lib.ListN.{length}
 use borrow.Author.Tests.{lt-ltb, eq-eqb}
 use Rattle.farm.specs.Limits.{Limits}
 use Rattle.farm.specs.Sets.{Seats}
+use Rattle.farm.specs.declared.places.Seat.{Seat}
 use Rattle.farm.specs.declared.refusals.Refusal.{Refusal}
 use Rattle.farm.specs.declared.refusals.Refusal.the-variants.{BadOrder, BytesLeft}
 use Rattle.farm.proofs.Cases.{and-intro}
@@ -20,7 +21,7 @@ use Rattle.record.specs.declared.edits.Before.the-variants.{Nothing, Thi
 use Rattle.record.specs.Taking.{IsBytes, Taken, value, refused, _>>=_, when}
 use Rattle.record.specs.Numbers.{numberBytes, takeNumber, takeWithin}
 use Rattle.record.specs.Header.{takeHeader, headerBytes}
-use Rattle.record.specs.Losses.{takeSet, takeRounds, lossBytes}
+use Rattle.record.specs.Losses.{firstSeat, takeSet, takeRounds, lossBytes}
 use Rattle.record.specs.Edits.{follows, takeEdit, takeEdits, editBytes, editsBytes}
 use Rattle.record.specs.Record.{Record, bad, takeRecord, whole, readingOf, bytesOf}
 use Rattle.record.specs.Good.{within, goodHeader, senderAfter, goodSets, goodRounds, goodEdits}
@@ -135,7 +136,7 @@ module _ (L : Limits) (wide : Wide L) (bytes : List ℕ) where
 -- ════ Losses ════
 
 -- The sets before the one that is refused.
-record SetsFault (L : Limits) (n sender left : ℕ) (bytes : List ℕ) (r : Refusal) : Type 0 where
+record SetsFault (L : Limits) (n : ℕ) (sender : Seat) (left : ℕ) (bytes : List ℕ) (r : Refusal) : Type 0 where
   sets : List Seats
   rest : List ℕ
   sound : goodSets n sender sets ≡ true
@@ -144,7 +145,7 @@ record SetsFault (L : Limits) (n sender left : ℕ) (bytes : List ℕ) (r : Refu
   after : IsBytes rest
   fault : takeSet L n (senderOn n sender sets) rest ≡ refused r
 
-sets-found : (L : Limits) (n sender left : ℕ) (bytes : List ℕ) (r : Refusal) → IsBytes bytes → takeSets L n sender left bytes ≡ refused r
+sets-found : (L : Limits) (n : ℕ) (sender : Seat) (left : ℕ) (bytes : List ℕ) (r : Refusal) → IsBytes bytes → takeSets L n sender left bytes ≡ refused r
     → SetsFault L n sender left bytes r
 unfolding takeSets goodSets lossBytes senderOn
 sets-found L n sender zero bytes r h e = absurd (value-not-refused [] bytes r e)
@@ -174,7 +175,7 @@ losses-found : (L : Limits) → Wide L → (bytes : List ℕ) (h : Header) (a : 
     → takeRounds L (h .seats) (h .rounds) a ≡ refused r → Fault L bytes r
 unfolding takeAt fits refusalAt takeSet upTo goodUpTo
 losses-found L wide bytes h a r g e =
-    let f = sets-found L (h .seats) 0 (h .seats * h .rounds) a r (g .after) (sym (rounds-are-flat L (h .seats) (h .rounds) a) ∙ e) in
+    let f = sets-found L (h .seats) firstSeat (h .seats * h .rounds) a r (g .after) (sym (rounds-are-flat L (h .seats) (h .rounds) a) ∙ e) in
     let some = positive (length (f .sets)) (h .seats) (h .rounds) (f .short) in
     at-fault L wide bytes (atLossSet h (f .sets)) (f .rest) r
     (and3-intro _ _ _ (g .sound) (lt-ltb (length (f .sets)) (h .seats * h .rounds) (f .short)) (f .sound))
@@ -248,13 +249,13 @@ module _ (L : Limits) (wide : Wide L) (bytes : List ℕ) (p : Record) (g : goodS
   time-found : (seat : ℕ) (rest : List ℕ) (r : Refusal) → within 0 (p .header .seats - 1) seat ≡ true
       → bytesOf L p ++ (numberBytes L seat ++ rest) ≡ bytes → IsBytes rest → takeWithin L 0 (p .header .rounds) rest ≡ refused r → Fault L bytes r
   unfolding takeAt fits refusalAt takeWithin upTo goodUpTo
-  time-found seat rest r gs w h e = at-fault L wide bytes (atTime p seat) rest r (and-intro _ _ g gs) (simp append-assoc w) h e
+  time-found seat rest r gs w h e = at-fault L wide bytes (atTime p (record { 0 = seat })) rest r (and-intro _ _ g gs) (simp append-assoc w) h e
 
   cell-found : (seat time : ℕ) (rest : List ℕ) (r : Refusal) → within 0 (p .header .seats - 1) seat ≡ true
       → within 0 (p .header .rounds) time ≡ true → bytesOf L p ++ (numberBytes L seat ++ (numberBytes L time ++ rest)) ≡ bytes → IsBytes rest
       → takeWithin L 0 (L .largestCell) rest ≡ refused r → Fault L bytes r
   unfolding takeAt fits refusalAt takeWithin upTo goodUpTo
-  cell-found seat time rest r gs gt w h e = at-fault L wide bytes (atCell p seat time) rest r (and3-intro _ _ _ g gs gt) (simp append-assoc w) h e
+  cell-found seat time rest r gs gt w h e = at-fault L wide bytes (atCell p (record { 0 = seat }) (record { 0 = time })) rest r (and3-intro _ _ _ g gs gt) (simp append-assoc w) h e
 
   change-found : (seat time cell : ℕ) (rest : List ℕ) (r : Refusal) → within 0 (p .header .seats - 1) seat ≡ true
       → within 0 (p .header .rounds) time ≡ true → within 0 (L .largestCell) cell ≡ true
@@ -262,7 +263,7 @@ module _ (L : Limits) (wide : Wide L) (bytes : List ℕ) (p : Record) (g : goodS
       → takeWithin L 0 (L .largestMappedChange) rest ≡ refused r → Fault L bytes r
   unfolding takeAt fits refusalAt takeWithin upTo goodUpTo
   change-found seat time cell rest r gs gt gc w h e =
-      at-fault L wide bytes (atChange p seat time cell) rest r (and4-intro _ _ _ _ g gs gt gc) (simp append-assoc w) h e
+      at-fault L wide bytes (atChange p (record { 0 = seat }) (record { 0 = time }) cell) rest r (and4-intro _ _ _ _ g gs gt gc) (simp append-assoc w) h e
 
   edit-found : (rest : List ℕ) (r : Refusal) → IsBytes rest → bytesOf L p ++ rest ≡ bytes
       → takeEdit L (p .header .seats) (p .header .rounds) rest ≡ refused r → Fault L bytes r
@@ -314,7 +315,7 @@ module _ (L : Limits) (wide : Wide L) (bytes : List ℕ) (p : Record) (g : goodS
 module _ (L : Limits) (wide : Wide L) (bytes : List ℕ) where
   -- Header and losses were read, and the edits are refused.
   all-edits-found : (h : Header) (losses : List Seats) (a b : List ℕ) (r : Refusal) → Again (goodHeader L h ≡ true) (headerBytes L h) a bytes
-      → Again ((length losses ≡ h .seats * h .rounds) × (goodSets (h .seats) 0 losses ≡ true)) (lossBytes L losses) b a
+      → Again ((length losses ≡ h .seats * h .rounds) × (goodSets (h .seats) firstSeat losses ≡ true)) (lossBytes L losses) b a
       → takeEdits L (h .seats) (h .rounds) (h .edits) Nothing b ≡ refused r → Fault L bytes r
   unfolding goodSoFar goodRounds bytesOf
   all-edits-found h losses a b r H S e =

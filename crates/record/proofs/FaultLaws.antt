@@ -12,6 +12,7 @@ use lib.ListN.{length}
 use borrow.Author.Tests.{eqb-true, eqb-false, ltb-true}
 use Rattle.farm.specs.Limits.{Limits}
 use Rattle.farm.specs.Sets.{Seats}
+use Rattle.farm.specs.declared.places.Seat.{Seat}
 use Rattle.farm.specs.declared.refusals.Refusal.{Refusal}
 use Rattle.farm.specs.declared.refusals.Refusal.the-variants.{BadOrder}
 use Rattle.farm.proofs.Cases.{and-elim}
@@ -21,7 +22,7 @@ use Rattle.record.specs.declared.edits.Before.the-variants.{Nothing}
 use Rattle.record.specs.Taking.{Taken, value, refused, _>>=_, when}
 use Rattle.record.specs.Numbers.{numberBytes, takeNumber, takeWithin}
 use Rattle.record.specs.Header.{takeHeader, headerBytes}
-use Rattle.record.specs.Losses.{takeSet, lossBytes}
+use Rattle.record.specs.Losses.{firstSeat, seatAfter, senderOf, takeSet, lossBytes}
 use Rattle.record.specs.Edits.{follows, takeEdit, takeEdits, editBytes, editsBytes}
 use Rattle.record.specs.Record.{Record, bad, takeRecord, whole, readingOf, bytesOf}
 use Rattle.record.specs.Good.{within, goodHeader, senderAfter, goodSets, goodRounds, goodEdit, goodEdits}
@@ -34,28 +35,31 @@ use Rattle.record.proofs.ReadBack.{senderOn, number-back, seats-fit, wi
 
 -- ════ The sender of the next set ════
 
-pub sender-after-mod : (n i : ℕ) → 0 < n → senderAfter n (i % n) ≡ suc i % n
+pub sender-after-mod : (n i : ℕ) → 0 < n → senderAfter n (senderOf n i) ≡ senderOf n (suc i)
 unfolding senderAfter
 sender-after-mod n i h = by (eqb (suc (i % n)) n) refl
   where
-    by : (t : Bool) → eqb (suc (i % n)) n ≡ t → cond t 0 (suc (i % n)) ≡ suc i % n
-    by true e = sym (suc-mod i n ∙ ap (λ (x : ℕ). x % n) (eqb-true (suc (i % n)) n e) ∙ mod-self n)
+    seat : ℕ → Seat
+    seat q = record { 0 = q }
+
+    by : (t : Bool) → eqb (suc (i % n)) n ≡ t → cond t firstSeat (seatAfter (senderOf n i)) ≡ senderOf n (suc i)
+    by true e = ap seat (sym (suc-mod i n ∙ ap (λ (x : ℕ). x % n) (eqb-true (suc (i % n)) n e) ∙ mod-self n))
     by false e =
         let other : suc (i % n) ≡ n → ⊥ = eqb-false (suc (i % n)) n e in
         let low = mod-lt i h in
-        sym (suc-mod i n ∙ mod-eq-of-lt (omega arith))
+        ap seat (sym (suc-mod i n ∙ mod-eq-of-lt (omega arith)))
 
-sender-on-mod : (n i : ℕ) (sets : List Seats) → 0 < n → senderOn n (i % n) sets ≡ (i + length sets) % n
+sender-on-mod : (n i : ℕ) (sets : List Seats) → 0 < n → senderOn n (senderOf n i) sets ≡ senderOf n (i + length sets)
 unfolding senderOn
 sender-on-mod n i [] h = rw (add-zero i)
 sender-on-mod n i (set ∷ sets) h =
     let e : suc i + length sets ≡ i + suc (length sets) = omega arith in
     rw (sender-after-mod n i h, sender-on-mod n (suc i) sets h, e)
 
-pub sender-due : (n : ℕ) (sets : List Seats) → 0 < n → senderOn n 0 sets ≡ length sets % n
+pub sender-due : (n : ℕ) (sets : List Seats) → 0 < n → senderOn n firstSeat sets ≡ senderOf n (length sets)
 sender-due n sets h =
     let e : 0 + length sets ≡ length sets = omega arith in
-    ap (λ (s : ℕ). senderOn n s sets) (sym (zero-mod n)) ∙ sender-on-mod n 0 sets h ∙ ap (λ (k : ℕ). k % n) e
+    ap (λ (s : ℕ). senderOn n (record { 0 = s }) sets) (sym (zero-mod n)) ∙ sender-on-mod n 0 sets h ∙ ap (senderOf n) e
 
 pub positive : (i n R : ℕ) → i < n * R → 0 < n
 positive i zero R h = absurd (omega arith)
@@ -81,8 +85,8 @@ module _ (L : Limits) (wide : Wide L) where
 
   -- The next loss set is refused.
   losses-refused : (h : Header) (sets : List Seats) (rest : List ℕ) (r : Refusal) → goodHeader L h ≡ true
-      → length sets < h .seats * h .rounds → goodSets (h .seats) 0 sets ≡ true
-      → takeSet L (h .seats) (length sets % h .seats) rest ≡ refused r
+      → length sets < h .seats * h .rounds → goodSets (h .seats) firstSeat sets ≡ true
+      → takeSet L (h .seats) (senderOf (h .seats) (length sets)) rest ≡ refused r
       → takeRecord L (headerBytes L h ++ (lossBytes L sets ++ rest)) ≡ refused r
   unfolding takeRecord takeSets joined _>>=_
   losses-refused h sets rest r g short s e =
@@ -93,7 +97,7 @@ module _ (L : Limits) (wide : Wide L) where
         header-back L wide h (lossBytes L sets ++ rest) g,
         rounds-are-flat L (h .seats) (h .rounds) (lossBytes L sets ++ rest),
         count,
-        sets-back L wide (h .seats) 0 (suc k) sets rest (f .most) s,
+        sets-back L wide (h .seats) firstSeat (suc k) sets rest (f .most) s,
         sender-due (h .seats) sets (positive (length sets) (h .seats) (h .rounds) short),
         e,
       )
@@ -118,7 +122,7 @@ module _ (L : Limits) (wide : Wide L) where
   edits-refused p rest r g e =
       let s = so-far p g in
       let h = header-facts L (p .header) (s .header) in
-      let rounds = and-elim (eqb (length (p .losses)) (p .header .seats * p .header .rounds)) (goodSets (p .header .seats) 0 (p .losses)) (s .rounds) in
+      let rounds = and-elim (eqb (length (p .losses)) (p .header .seats * p .header .rounds)) (goodSets (p .header .seats) firstSeat (p .losses)) (s .rounds) in
       let short = s .short in
       let k = p .header .edits - suc (length (p .edits)) in
       let count : p .header .edits ≡ length (p .edits) + suc k = omega arith in
@@ -257,13 +261,13 @@ module _ (L : Limits) (wide : Wide L) where
   spot-refused (atSeat p) rest r g e = seat-refused p g rest r e
   spot-refused (atTime p seat) rest r g e =
       let x = and-elim _ _ g in
-      simp append-assoc (time-refused p (x .0) seat (x .1) rest r e)
+      simp append-assoc (time-refused p (x .0) (seat .0) (x .1) rest r e)
   spot-refused (atCell p seat time) rest r g e =
       let x = and3-elim _ _ _ g in
-      simp append-assoc (cell-refused p (x .0) seat (x .1) time (x .2) rest r e)
+      simp append-assoc (cell-refused p (x .0) (seat .0) (x .1) (time .0) (x .2) rest r e)
   spot-refused (atChange p seat time cell) rest r g e =
       let x = and4-elim _ _ _ _ g in
-      simp append-assoc (change-refused p (x .0) seat (x .1) time (x .2) cell rest r (x .3) e)
+      simp append-assoc (change-refused p (x .0) (seat .0) (x .1) (time .0) (x .2) cell rest r (x .3) e)
 
   pub fault-refused : (bytes : List ℕ) {r : Refusal} → Fault L bytes r → readingOf L bytes ≡ bad r
   unfolding readingOf whole

@@ -10,8 +10,9 @@ use lib.Dec.{eqb}
 use borrow.Author.Tests.{eq-eqb, ne-eqb}
 use Rattle.farm.specs.Limits.{Limits}
 use Rattle.farm.specs.Sets.{Seats}
+use Rattle.farm.specs.declared.places.Seat.{Seat}
 use Rattle.record.specs.Taking.{Taken, value, refused, _>>=_}
-use Rattle.record.specs.Losses.{takeSet, takeRound, takeRounds}
+use Rattle.record.specs.Losses.{firstSeat, seatAfter, takeSet, takeRound, takeRounds}
 use Rattle.record.specs.Good.{senderAfter}
 
 -- A list that was taken goes in front of what is taken after it.
@@ -20,7 +21,7 @@ joined front (value more end) = value (front ++ more) end
 joined front (refused r) = refused r
 
 -- As many sets as are left, the first of them sent by the sender.
-unfoldable pub takeSets : Limits → (n sender left : ℕ) → List ℕ → Taken (List Seats)
+unfoldable pub takeSets : Limits → (n : ℕ) (sender : Seat) (left : ℕ) → List ℕ → Taken (List Seats)
 takeSets L n sender zero bytes = value [] bytes
 takeSets L n sender (suc left) bytes = do
   (set, rest) ← takeSet L n sender bytes
@@ -50,13 +51,13 @@ joined-nil (refused r) = refl
 module _ (L : Limits) (n : ℕ) where
   -- The sets of the rounds to come, after those of the round at hand.
   unfoldable andThen : ℕ → List Seats × List ℕ → Taken (List Seats)
-  andThen k x = joined (x .0) (takeSets L n 0 k (x .1))
+  andThen k x = joined (x .0) (takeSets L n firstSeat k (x .1))
 
   -- One set more in front of a round.
   moved : (set : Seats) (k : ℕ) (t : Taken (List Seats))
       → ((t >>= λ x. value (set ∷ x .0) (x .1)) >>= andThen k) ≡ joined (set ∷ []) (t >>= andThen k)
   unfolding _>>=_ andThen joined
-  moved set k (value sets end) = sym (joined-joined (set ∷ []) sets (takeSets L n 0 k end))
+  moved set k (value sets end) = sym (joined-joined (set ∷ []) sets (takeSets L n firstSeat k end))
   moved set k (refused r) = refl
 
   moved-set : (k : ℕ) (t : Taken Seats) (round flat : List ℕ → Taken (List Seats))
@@ -67,24 +68,24 @@ module _ (L : Limits) (n : ℕ) where
   moved-set k (refused r) round flat e = refl
 
   -- The rounds from the middle of one on.
-  round-is-flat : (sender left k : ℕ) (bytes : List ℕ) → sender + left ≡ n
-      → (takeRound L n sender left bytes >>= andThen k) ≡ takeSets L n (cond (eqb sender n) 0 sender) (k + left) bytes
+  round-is-flat : (sender : Seat) (left k : ℕ) (bytes : List ℕ) → sender .0 + left ≡ n
+      → (takeRound L n sender left bytes >>= andThen k) ≡ takeSets L n (cond (eqb (sender .0) n) firstSeat sender) (k + left) bytes
   unfolding takeRound takeSets _>>=_ andThen senderAfter
-  round-is-flat sender zero k bytes h = rw (eq-eqb sender n (omega arith), add-zero k) (joined-nil (takeSets L n 0 k bytes))
+  round-is-flat sender zero k bytes h = rw (eq-eqb (sender .0) n (omega arith), add-zero k) (joined-nil (takeSets L n firstSeat k bytes))
   round-is-flat sender (suc left) k bytes h =
-      rw (ne-eqb sender n (omega arith), add-suc k left)
-      (moved-set k (takeSet L n sender bytes) (takeRound L n (suc sender) left) (takeSets L n (senderAfter n sender) (k + left))
-      (λ rest. round-is-flat (suc sender) left k rest (omega arith)))
+      rw (ne-eqb (sender .0) n (omega arith), add-suc k left)
+      (moved-set k (takeSet L n sender bytes) (takeRound L n (seatAfter sender) left) (takeSets L n (senderAfter n sender) (k + left))
+      (λ rest. round-is-flat (seatAfter sender) left k rest (omega arith)))
 
-  pub rounds-are-flat : (R : ℕ) (bytes : List ℕ) → takeRounds L n R bytes ≡ takeSets L n 0 (n * R) bytes
+  pub rounds-are-flat : (R : ℕ) (bytes : List ℕ) → takeRounds L n R bytes ≡ takeSets L n firstSeat (n * R) bytes
   unfolding takeRounds takeSets andThen
   rounds-are-flat zero bytes = rw (mul-zero n)
   rounds-are-flat (suc R) bytes =
-      bind-equal (takeRound L n 0 n bytes) _ (andThen (n * R))
+      bind-equal (takeRound L n firstSeat n bytes) _ (andThen (n * R))
       (λ sets rest. joined-bind sets (takeRounds L n R rest) ∙ ap (joined sets) (rounds-are-flat R rest))
-      ∙ round-is-flat 0 n (n * R) bytes (omega arith)
+      ∙ round-is-flat firstSeat n (n * R) bytes (omega arith)
       ∙ rw (first (eqb 0 n), mul-suc n R)
     where
-      first : (t : Bool) → _≡_ {A = ℕ} (cond t 0 0) 0
+      first : (t : Bool) → cond t firstSeat firstSeat ≡ firstSeat
       first true = refl
       first false = refl

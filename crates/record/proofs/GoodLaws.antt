@@ -9,12 +9,13 @@ use lib.ListN.{length}
 use borrow.Author.Tests.{leb-true, le-leb, ltb-true, eqb-true, eq-eqb}
 use Rattle.farm.specs.Limits.{Limits}
 use Rattle.farm.specs.Sets.{Seats}
+use Rattle.farm.specs.declared.places.Seat.{Seat}
 use Rattle.farm.proofs.Cases.{and-intro, and-elim}
 use Rattle.record.specs.declared.header.Header.{Header}
 use Rattle.record.specs.declared.edits.Edit.{Edit}
 use Rattle.record.specs.declared.edits.Before.the-variants.{Nothing}
 use Rattle.record.specs.Changes.{mapped}
-use Rattle.record.specs.Losses.{goodSet}
+use Rattle.record.specs.Losses.{firstSeat, goodSet}
 use Rattle.record.specs.Record.{Record}
 use Rattle.record.specs.Good.{within, goodHeader, goodSets, goodRounds, goodEdit, goodEdits, goodRecord}
 
@@ -79,7 +80,7 @@ header-from-facts L h f =
     (within-intro 0 (L .mostRounds) (h .rounds) (omega arith) (f .rounds))
     (within-intro 0 (L .mostEdits) (h .edits) (omega arith) (f .edits))
 
-pub set-facts : (n sender : ℕ) (set : Seats) → goodSet n sender set ≡ true → set < 2 ^ n
+pub set-facts : (n : ℕ) (sender : Seat) (set : Seats) → goodSet n sender set ≡ true → set < 2 ^ n
 unfolding goodSet
 set-facts n sender set e = ltb-true set (2 ^ n) (and-elim _ _ e .0)
 
@@ -112,7 +113,7 @@ edit-from-facts L n R e f =
 pub record RecordFacts (L : Limits) (r : Record) : Type 0 where
   pub header : goodHeader L (r .header) ≡ true
   pub lossCount : length (r .losses) ≡ r .header .seats * r .header .rounds
-  pub losses : goodSets (r .header .seats) 0 (r .losses) ≡ true
+  pub losses : goodSets (r .header .seats) firstSeat (r .losses) ≡ true
   pub editCount : length (r .edits) ≡ r .header .edits
   pub edits : goodEdits L (r .header .seats) (r .header .rounds) Nothing (r .edits) ≡ true
 

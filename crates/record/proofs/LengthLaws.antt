@@ -13,6 +13,7 @@ use lib.Pow.{pow-pos}
 use borrow.Author.Tests.{ltb-false, lt-ltb, le-ltb}
 use Rattle.farm.specs.Limits.{Limits, limits}
 use Rattle.farm.specs.Sets.{Seats}
+use Rattle.farm.specs.declared.places.Seat.{Seat}
 use Rattle.farm.proofs.Cases.{and-intro, and-elim}
 use Rattle.farm.proofs.SetLaws.{bit-below}
 use Rattle.record.specs.declared.header.Header.{Header}
@@ -22,7 +23,7 @@ use Rattle.record.specs.declared.edits.Before.the-variants.{Nothing, Thi
 use Rattle.record.specs.Numbers.{groupsOf, numberBytes}
 use Rattle.record.specs.Changes.{mapped}
 use Rattle.record.specs.Header.{headerBytes}
-use Rattle.record.specs.Losses.{goodSet, lossBytes}
+use Rattle.record.specs.Losses.{firstSeat, goodSet, lossBytes}
 use Rattle.record.specs.Edits.{rises, follows, editBytes, editsBytes}
 use Rattle.record.specs.Lengths.{numbersLength, changesLength}
 use Rattle.record.specs.Record.{Record, bytesOf}
@@ -77,7 +78,7 @@ header-length h g =
     let E = two-bytes (h .edits) (omega arith) in
     simp length-append (omega arith)
 
-pub sets-length : (n sender : ℕ) (sets : List Seats) → n ≤ 7 → goodSets n sender sets ≡ true → length (lossBytes limits sets) ≡ length sets
+pub sets-length : (n : ℕ) (sender : Seat) (sets : List Seats) → n ≤ 7 → goodSets n sender sets ≡ true → length (lossBytes limits sets) ≡ length sets
 unfolding goodSets lossBytes
 sets-length n sender [] few g = refl
 sets-length n sender (set ∷ sets) few g =
@@ -115,7 +116,7 @@ record-most r g =
     let f = record-facts limits r g in
     let h = header-facts limits (r .header) (f .header) in
     let a = header-length (r .header) (f .header) in
-    let b = sets-length (r .header .seats) 0 (r .losses) (h .most) (f .losses) in
+    let b = sets-length (r .header .seats) firstSeat (r .losses) (h .most) (f .losses) in
     let c = edits-length (r .header .seats) (r .header .rounds) Nothing (r .edits) (h .most) (h .rounds) (f .edits) in
     simp length-append (omega arith)
 
@@ -175,11 +176,11 @@ longest-length =
 
 -- ════ And it is good ════
 
-no-losses-good : (n sender k : ℕ) → goodSets n sender (replicate k 0) ≡ true
+no-losses-good : (n : ℕ) (sender : Seat) (k : ℕ) → goodSets n sender (replicate k 0) ≡ true
 unfolding goodSets
 no-losses-good n sender zero = refl
 no-losses-good n sender (suc k) =
-    and-intro _ _ (set-intro n sender 0 (λ q b. absurd (true≢false (sym b ∙ bit-below 0 q (pow-pos q))))) (no-losses-good n (senderAfter n sender) k)
+    and-intro _ _ (set-intro n sender 0 (λ q b. absurd (true≢false (sym b ∙ bit-below 0 (q .0) (pow-pos (q .0)))))) (no-losses-good n (senderAfter n sender) k)
 
 long-edit-good : (cell : ℕ) → cell ≤ 65535 → goodEdit limits 7 127 (editOf 0 0 cell (pos 8192)) ≡ true
 unfolding mapped
@@ -204,7 +205,7 @@ longest-good = record-from-facts limits longest
     (record {
       header = unfold goodHeader in refl;
       lossCount = length-replicate {A = ℕ} 889 0;
-      losses = no-losses-good 7 0 889;
+      losses = no-losses-good 7 firstSeat 889;
       editCount = long-edits-length 16384 512;
       edits = first;
     })

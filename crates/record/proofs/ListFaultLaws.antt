@@ -14,6 +14,7 @@ use Rattle.record.specs.declared.edits.Before.{Before}
 use Rattle.record.specs.declared.edits.Before.the-variants.{Nothing, This}
 use Rattle.record.specs.Edits.{follows}
 use Rattle.record.specs.Record.{Record, bad}
+use Rattle.record.specs.Losses.{firstSeat}
 use Rattle.record.specs.Good.{goodHeader, goodSets, goodEdit, goodEdits}
 use Rattle.record.specs.Faults.{lastOf}
 use Rattle.record.specs.Tables.{Tables}
@@ -89,7 +90,7 @@ module _ (L : Limits) (n t R : ℕ) (lists : Tables) where
   unfolding checkedLists judgedLists
   lists-faulty f e = header (unless-faulty _ OutOfRange _ f (judged-bad _ _ f e))
     where
-      edit : goodHeader L (headerFrom n t R lists) ≡ true → fitting n R lists ≡ true → goodSets n 0 (lists .losses) ≡ true
+      edit : goodHeader L (headerFrom n t R lists) ≡ true → fitting n R lists ≡ true → goodSets n firstSeat (lists .losses) ≡ true
           → EditFault L n R Nothing (editsIn lists) f → ListFault L n t R lists f
       edit h l s x =
           let reached : ReachedEdit L n t R lists (x .front) (x .edit) (x .rest) =
@@ -101,22 +102,22 @@ module _ (L : Limits) (n t R : ℕ) (lists : Tables) where
           (x .why)
 
       sets : goodHeader L (headerFrom n t R lists) ≡ true → fitting n R lists ≡ true
-          → ((goodSets n 0 (lists .losses) ≡ false) × (BadLossSet ≡ f))
-          ⊎ ((goodSets n 0 (lists .losses) ≡ true) × (judgedEdits L n R Nothing (editsIn lists) ≡ faulty f))
+          → ((goodSets n firstSeat (lists .losses) ≡ false) × (BadLossSet ≡ f))
+          ⊎ ((goodSets n firstSeat (lists .losses) ≡ true) × (judgedEdits L n R Nothing (editsIn lists) ≡ faulty f))
           → ListFault L n t R lists f
       sets h l (inl x) = let same = x .1 in rw (← same) (badLosses h l (x .0))
       sets h l (inr x) = edit h l (x .0) (edits-faulty L n R Nothing (editsIn lists) f (x .1))
 
       lengths : goodHeader L (headerFrom n t R lists) ≡ true
           → ((fitting n R lists ≡ false) × (BadLengths ≡ f))
-          ⊎ ((fitting n R lists ≡ true) × (unless (goodSets n 0 (lists .losses)) BadLossSet (judgedEdits L n R Nothing (editsIn lists)) ≡ faulty f))
+          ⊎ ((fitting n R lists ≡ true) × (unless (goodSets n firstSeat (lists .losses)) BadLossSet (judgedEdits L n R Nothing (editsIn lists)) ≡ faulty f))
           → ListFault L n t R lists f
       lengths h (inl x) = let same = x .1 in rw (← same) (badLengths h (x .0))
       lengths h (inr x) = sets h (x .0) (unless-faulty _ BadLossSet _ f (x .1))
 
       header : ((goodHeader L (headerFrom n t R lists) ≡ false) × (OutOfRange ≡ f))
           ⊎ ((goodHeader L (headerFrom n t R lists) ≡ true)
-          × (unless (fitting n R lists) BadLengths (unless (goodSets n 0 (lists .losses)) BadLossSet (judgedEdits L n R Nothing (editsIn lists)))
+          × (unless (fitting n R lists) BadLengths (unless (goodSets n firstSeat (lists .losses)) BadLossSet (judgedEdits L n R Nothing (editsIn lists)))
           ≡ faulty f))
           → ListFault L n t R lists f
       header (inl x) = let same = x .1 in rw (← same) (badHeader (x .0))

@@ -9,6 +9,7 @@ use native.Mathlib.Omega.{arith}
 use lib.Dec.{eqb, ltb, lit<}
 use borrow.Author.Tests.{ltb-true, lt-ltb, eqb-true, eq-eqb, not-true}
 use Rattle.farm.specs.Sets.{Seats, bit, collect}
+use Rattle.farm.specs.declared.places.Seat.{Seat}
 use Rattle.farm.proofs.Cases.{or-left, or-right, or-elim, and-intro, and-elim, true-or-false, less-or-not}
 use Rattle.farm.proofs.SetLaws.{bit-below, bit-collect, collect-below, bits-equal}
 use Rattle.record.specs.declared.edits.Edit.{Edit}
@@ -59,19 +60,19 @@ rises-not-itself e = ⊎-elim (λ t. absurd (never (rises-elim e e t))) (λ f. f
 
 -- ════ Loss sets ════
 
-pub set-elim : (n sender : ℕ) (set : Seats) → goodSet n sender set ≡ true → (q : ℕ) → bit set q ≡ true → (q < n) × (q ≢ sender)
+pub set-elim : (n : ℕ) (sender : Seat) (set : Seats) → goodSet n sender set ≡ true → (q : Seat) → bit set (q .0) ≡ true → (q .0 < n) × (q ≢ sender)
 unfolding goodSet
-set-elim n sender set e q b = (⊎-elim (λ l. l) far (less-or-not q n), other)
+set-elim n sender set e q b = (⊎-elim (λ l. l) far (less-or-not (q .0) n), other)
   where
-    x : (ltb set (2 ^ n) ≡ true) × (not (bit set sender) ≡ true)
+    x : (ltb set (2 ^ n) ≡ true) × (not (bit set (sender .0)) ≡ true)
     x = and-elim _ _ e
 
-    far : n ≤ q → q < n
+    far : n ≤ q .0 → q .0 < n
     far h =
-        absurd (true≢false (sym b ∙ bit-below set q (lt-of-lt-of-le (ltb-true set (2 ^ n) (x .0)) (pow-le-pow-right {n = 2} (lit< tt) h))))
+        absurd (true≢false (sym b ∙ bit-below set (q .0) (lt-of-lt-of-le (ltb-true set (2 ^ n) (x .0)) (pow-le-pow-right {n = 2} (lit< tt) h))))
 
     other : q ≢ sender
-    other s = absurd (true≢false (sym b ∙ ap (bit set) s ∙ not-true (bit set sender) (x .1)))
+    other s = absurd (true≢false (sym b ∙ ap (λ (s : Seat). bit set (s .0)) s ∙ not-true (bit set (sender .0)) (x .1)))
 
 -- A set with no bit at n or above is below 2 ^ n.
 set-below : (n : ℕ) (set : Seats) → ((q : ℕ) → n ≤ q → bit set q ≡ false) → set < 2 ^ n
@@ -94,13 +95,13 @@ set-below n set h = let low = collect-below n (bit set) in omega (arith, same)
     same : collect n (bit set) ≡ set
     same = bits-equal (n + set) (collect n (bit set)) set top room each
 
-pub set-intro : (n sender : ℕ) (set : Seats) → ((q : ℕ) → bit set q ≡ true → (q < n) × (q ≢ sender)) → goodSet n sender set ≡ true
+pub set-intro : (n : ℕ) (sender : Seat) (set : Seats) → ((q : Seat) → bit set (q .0) ≡ true → (q .0 < n) × (q ≢ sender)) → goodSet n sender set ≡ true
 unfolding goodSet
-set-intro n sender set h = and-intro _ _ (lt-ltb set (2 ^ n) (set-below n set high)) (own (bit set sender) refl)
+set-intro n sender set h = and-intro _ _ (lt-ltb set (2 ^ n) (set-below n set high)) (own (bit set (sender .0)) refl)
   where
     high : (q : ℕ) → n ≤ q → bit set q ≡ false
-    high q l = ⊎-elim (λ b. let low = h q b .0 in absurd (omega arith)) (λ b. b) (true-or-false (bit set q))
+    high q l = ⊎-elim (λ b. let low = h (record { 0 = q }) b .0 in absurd (omega arith)) (λ b. b) (true-or-false (bit set q))
 
-    own : (b : Bool) → bit set sender ≡ b → not (bit set sender) ≡ true
+    own : (b : Bool) → bit set (sender .0) ≡ b → not (bit set (sender .0)) ≡ true
     own true e = absurd (h sender e .1 refl)
     own false e = rw e

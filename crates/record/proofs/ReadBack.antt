@@ -10,6 +10,7 @@ use lib.Dec.{lit<}
 use lib.ListN.{length}
 use Rattle.farm.specs.Limits.{Limits}
 use Rattle.farm.specs.Sets.{Seats}
+use Rattle.farm.specs.declared.places.Seat.{Seat}
 use Rattle.farm.proofs.Cases.{and-elim}
 use Rattle.record.specs.declared.header.Header.{Header}
 use Rattle.record.specs.declared.edits.Edit.{Edit}
@@ -19,7 +20,7 @@ use Rattle.record.specs.Taking.{value, _>>=_, when}
 use Rattle.record.specs.Numbers.{numberBytes, takeNumber, takeWithin}
 use Rattle.record.specs.Changes.{mapped}
 use Rattle.record.specs.Header.{takeHeader, headerBytes}
-use Rattle.record.specs.Losses.{goodSet, takeSet, takeRounds, lossBytes}
+use Rattle.record.specs.Losses.{firstSeat, goodSet, takeSet, takeRounds, lossBytes}
 use Rattle.record.specs.Edits.{takeEdit, takeEdits, editBytes, editsBytes}
 use Rattle.record.specs.Record.{Record, good, takeRecord, whole, readingOf, bytesOf}
 use Rattle.record.specs.Good.{goodHeader, senderAfter, goodSets, goodEdit, goodEdits, goodRecord}
@@ -36,7 +37,7 @@ below-power zero = lit< tt
 below-power (suc n) = let below = below-power n in omega arith
 
 -- The sender of the set after some sets.
-unfoldable pub senderOn : (n sender : ℕ) → List Seats → ℕ
+unfoldable pub senderOn : (n : ℕ) (sender : Seat) → List Seats → Seat
 senderOn n sender [] = sender
 senderOn n sender (set ∷ sets) = senderOn n (senderAfter n sender) sets
 
@@ -74,7 +75,7 @@ module _ (L : Limits) (wide : Wide L) where
 
   -- ════ Losses ════
 
-  pub set-back : (n sender : ℕ) (set : Seats) (rest : List ℕ) → n ≤ L .mostSeats → goodSet n sender set ≡ true
+  pub set-back : (n : ℕ) (sender : Seat) (set : Seats) (rest : List ℕ) → n ≤ L .mostSeats → goodSet n sender set ≡ true
       → takeSet L n sender (numberBytes L set ++ rest) ≡ value set rest
   unfolding takeSet _>>=_ when
   set-back n sender set rest few g =
@@ -84,7 +85,7 @@ module _ (L : Limits) (wide : Wide L) where
       rw (number-back set rest (omega arith), g)
 
   -- Good sets are taken, and the sets after them come next.
-  pub sets-back : (n sender k : ℕ) (sets : List Seats) (rest : List ℕ) → n ≤ L .mostSeats → goodSets n sender sets ≡ true
+  pub sets-back : (n : ℕ) (sender : Seat) (k : ℕ) (sets : List Seats) (rest : List ℕ) → n ≤ L .mostSeats → goodSets n sender sets ≡ true
       → takeSets L n sender (length sets + k) (lossBytes L sets ++ rest) ≡ joined sets (takeSets L n (senderOn n sender sets) k rest)
   unfolding goodSets lossBytes senderOn takeSets _>>=_
   sets-back n sender k [] rest few g = rw zero-add (sym (joined-nil _))
@@ -99,12 +100,12 @@ module _ (L : Limits) (wide : Wide L) where
       (joined-joined (set ∷ []) sets _)
 
   pub rounds-back : (n R : ℕ) (losses : List Seats) (rest : List ℕ) → n ≤ L .mostSeats → length losses ≡ n * R
-      → goodSets n 0 losses ≡ true → takeRounds L n R (lossBytes L losses ++ rest) ≡ value losses rest
+      → goodSets n firstSeat losses ≡ true → takeRounds L n R (lossBytes L losses ++ rest) ≡ value losses rest
   unfolding takeSets joined
   rounds-back n R losses rest few count g =
       let none : n * R ≡ length losses + 0 = omega arith in
       rounds-are-flat L n R (lossBytes L losses ++ rest)
-      ∙ rw none (sets-back n 0 0 losses rest few g)
+      ∙ rw none (sets-back n firstSeat 0 losses rest few g)
       ∙ ap (λ (l : List Seats). value l rest) (append-nil losses)
 
   -- ════ Edits ════

@@ -7,6 +7,7 @@ use Prim.Native.Nat.{ℕ, zero, suc, _-_, _*_}
 use lib.ListN.{length}
 use Rattle.farm.specs.Limits.{Limits}
 use Rattle.farm.specs.Sets.{Seats}
+use Rattle.farm.specs.declared.places.Seat.{Seat}
 use Rattle.farm.specs.declared.refusals.Refusal.the-variants.{BadLossSet, BadOrder}
 use Rattle.farm.proofs.Cases.{and-intro}
 use Rattle.record.specs.declared.header.Header.{Header}
@@ -17,7 +18,7 @@ use Rattle.record.specs.Taking.{Taken, value, refused, when}
 use Rattle.record.specs.Numbers.{takeNumber, takeWithin}
 use Rattle.record.specs.Changes.{unmapped}
 use Rattle.record.specs.Header.{takeHeader}
-use Rattle.record.specs.Losses.{goodSet, takeSet, takeRounds}
+use Rattle.record.specs.Losses.{firstSeat, goodSet, takeSet, takeRounds}
 use Rattle.record.specs.Edits.{follows, takeEdit, takeEdits}
 use Rattle.record.specs.Record.{Record, good, takeRecord, whole, readingOf}
 use Rattle.record.specs.Good.{goodHeader, senderAfter, goodSets, goodEdit, goodEdits, goodRecord}
@@ -50,7 +51,7 @@ module _ (L : Limits) where
 
   -- ════ Losses ════
 
-  pub set-taken : (n sender : ℕ) (bytes : List ℕ) (set : Seats) (rest : List ℕ) → takeSet L n sender bytes ≡ value set rest
+  pub set-taken : (n : ℕ) (sender : Seat) (bytes : List ℕ) (set : Seats) (rest : List ℕ) → takeSet L n sender bytes ≡ value set rest
       → (takeNumber L bytes ≡ value set rest) × (goodSet n sender set ≡ true)
   unfolding takeSet
   set-taken n sender bytes set rest e =
@@ -60,7 +61,7 @@ module _ (L : Limits) where
       let sound = y .0 in
       (x .2 ∙ y .1, rw same at sound)
 
-  pub sets-taken : (n sender left : ℕ) (bytes : List ℕ) (sets : List Seats) (rest : List ℕ) → takeSets L n sender left bytes ≡ value sets rest
+  pub sets-taken : (n : ℕ) (sender : Seat) (left : ℕ) (bytes : List ℕ) (sets : List Seats) (rest : List ℕ) → takeSets L n sender left bytes ≡ value sets rest
       → (length sets ≡ left) × (goodSets n sender sets ≡ true)
   unfolding takeSets goodSets
   sets-taken n sender zero bytes sets rest e = let none : [] ≡ sets = cc in rw (← none) (refl, refl)
@@ -72,8 +73,8 @@ module _ (L : Limits) where
       rw (← all) (ap suc (later .0), and-intro _ _ (set-taken n sender bytes (x .0) (x .1) (x .2) .1) (later .1))
 
   pub rounds-taken : (n R : ℕ) (bytes : List ℕ) (losses : List Seats) (rest : List ℕ) → takeRounds L n R bytes ≡ value losses rest
-      → (length losses ≡ n * R) × (goodSets n 0 losses ≡ true)
-  rounds-taken n R bytes losses rest e = sets-taken n 0 (n * R) bytes losses rest (sym (rounds-are-flat L n R bytes) ∙ e)
+      → (length losses ≡ n * R) × (goodSets n firstSeat losses ≡ true)
+  rounds-taken n R bytes losses rest e = sets-taken n firstSeat (n * R) bytes losses rest (sym (rounds-are-flat L n R bytes) ∙ e)
 
   -- ════ Edits ════
 

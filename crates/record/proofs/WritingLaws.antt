@@ -147,11 +147,11 @@ good-lists-accepted L r g =
 
 pub refused-leaves : (L : Limits) (x : Reading) (old : List ℕ) (f : Refusal) → answered L x (length old) ≡ unwritten f → bufferWith L x old ≡ old
 unfolding answered bufferWith
-refused-leaves L (good r) old f e = by (leb (length (bytesOf L r)) (length old)) e
+refused-leaves L (good r) old f e = by (leb (length (bytesOf L r)) (length old)) _ e
   where
-    by : (t : Bool) → cond t (count (length (bytesOf L r))) (unwritten NoRoom) ≡ unwritten f → cond t (over 0 (bytesOf L r) old) old ≡ old
-    by true g = let z : _≡_ {A = ℕ} 0 1 = cc in absurd (omega arith)
-    by false g = refl
+    by : (t : Bool) (new : List ℕ) → cond t (count (length (bytesOf L r))) (unwritten NoRoom) ≡ unwritten f → cond t new old ≡ old
+    by true new g = let z : _≡_ {A = ℕ} 0 1 = cc in absurd (omega arith)
+    by false new g = refl
 refused-leaves L (bad g) old f e = refl
 
 -- What was counted stands in front, and is the record's bytes.

@@ -9,6 +9,7 @@ use lib.ListN.{length}
 use lib.Seq.{getD-append-add}
 use Rattle.farm.specs.Limits.{Limits}
 use Rattle.farm.specs.Sets.{Seats}
+use Rattle.farm.specs.declared.places.Seat.{Seat}
 use Rattle.farm.specs.declared.refusals.Refusal.the-variants.{BadOrder}
 use Rattle.record.specs.declared.header.Header.{Header}
 use Rattle.record.specs.declared.edits.Edit.{Edit}
@@ -17,7 +18,7 @@ use Rattle.record.specs.declared.edits.Before.the-variants.{Nothing, Thi
 use Rattle.record.specs.Taking.{IsBytes, value, when}
 use Rattle.record.specs.Numbers.{numberBytes, takeNumber, takeWithin}
 use Rattle.record.specs.Header.{takeHeader, headerBytes}
-use Rattle.record.specs.Losses.{goodSet, takeSet, takeRounds, lossBytes}
+use Rattle.record.specs.Losses.{firstSeat, goodSet, takeSet, takeRounds, lossBytes}
 use Rattle.record.specs.Edits.{follows, takeEdit, takeEdits, editBytes, editsBytes}
 use Rattle.record.specs.Record.{Record, good, takeRecord, readingOf, bytesOf}
 use Rattle.record.specs.Widths.{Wide}
@@ -76,13 +77,13 @@ module _ (L : Limits) where
 
   -- ════ Losses ════
 
-  pub set-again : (n sender : ℕ) (bytes : List ℕ) (set : Seats) (rest : List ℕ) → IsBytes bytes → takeSet L n sender bytes ≡ value set rest
+  pub set-again : (n : ℕ) (sender : Seat) (bytes : List ℕ) (set : Seats) (rest : List ℕ) → IsBytes bytes → takeSet L n sender bytes ≡ value set rest
       → Again (goodSet n sender set ≡ true) (numberBytes L set) rest bytes
   set-again n sender bytes set rest h e =
       let x = set-taken L n sender bytes set rest e in
       again (numberBytes L set) rest bytes (x .1) (took-number L bytes set rest h (x .0) .1) h
 
-  pub sets-again : (n sender left : ℕ) (bytes : List ℕ) (sets : List Seats) (rest : List ℕ) → IsBytes bytes
+  pub sets-again : (n : ℕ) (sender : Seat) (left : ℕ) (bytes : List ℕ) (sets : List Seats) (rest : List ℕ) → IsBytes bytes
       → takeSets L n sender left bytes ≡ value sets rest
       → Again ((length sets ≡ left) × (goodSets n sender sets ≡ true)) (lossBytes L sets) rest bytes
   unfolding takeSets goodSets lossBytes
@@ -101,8 +102,8 @@ module _ (L : Limits) where
 
   pub rounds-again : (n R : ℕ) (bytes : List ℕ) (losses : List Seats) (rest : List ℕ) → IsBytes bytes
       → takeRounds L n R bytes ≡ value losses rest
-      → Again ((length losses ≡ n * R) × (goodSets n 0 losses ≡ true)) (lossBytes L losses) rest bytes
-  rounds-again n R bytes losses rest h e = sets-again n 0 (n * R) bytes losses rest h (sym (rounds-are-flat L n R bytes) ∙ e)
+      → Again ((length losses ≡ n * R) × (goodSets n firstSeat losses ≡ true)) (lossBytes L losses) rest bytes
+  rounds-again n R bytes losses rest h e = sets-again n firstSeat (n * R) bytes losses rest h (sym (rounds-are-flat L n R bytes) ∙ e)
 
   -- ════ Edits ════
 

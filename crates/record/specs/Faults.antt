@@ -4,11 +4,13 @@
 use mathlib.Core.Path.{_≡_}
 use mathlib.Core.Bool.{Bool, true, false, _&&_}
 use mathlib.Core.List.{List, [], _∷_, _++_}
-use Prim.Native.Nat.{ℕ, _-_, _*_, _%_, _^_, _<_}
+use Prim.Native.Nat.{ℕ, _-_, _*_, _^_, _<_}
 use lib.Dec.{leb, ltb}
 use lib.ListN.{length}
 use Rattle.farm.specs.Limits.{Limits}
 use Rattle.farm.specs.Sets.{Seats}
+use Rattle.farm.specs.declared.places.Seat.{Seat}
+use Rattle.farm.specs.declared.places.Time.{Time}
 use Rattle.farm.specs.declared.refusals.Refusal.{Refusal}
 use Rattle.farm.specs.declared.refusals.Refusal.the-variants.{EndsEarly, BadForm, OutOfRange, BadLossSet, BadOrder, BytesLeft}
 use Rattle.record.specs.declared.header.Header.{Header}
@@ -17,7 +19,7 @@ use Rattle.record.specs.declared.edits.Before.{Before}
 use Rattle.record.specs.declared.edits.Before.the-variants.{Nothing, This}
 use Rattle.record.specs.Numbers.{numberBytes}
 use Rattle.record.specs.Header.{headerBytes}
-use Rattle.record.specs.Losses.{goodSet, lossBytes}
+use Rattle.record.specs.Losses.{firstSeat, senderOf, goodSet, lossBytes}
 use Rattle.record.specs.Edits.{follows, editBytes}
 use Rattle.record.specs.Record.{Record, bytesOf}
 use Rattle.record.specs.Good.{within, goodHeader, goodSets, goodRounds, goodEdit, goodEdits, goodRecord}
@@ -48,9 +50,9 @@ pub data Spot : Type 0 where
   atEdits : (n t R : ℕ) → Spot
   atLossSet : Header → List Seats → Spot
   atSeat : Record → Spot
-  atTime : Record → (seat : ℕ) → Spot
-  atCell : Record → (seat time : ℕ) → Spot
-  atChange : Record → (seat time cell : ℕ) → Spot
+  atTime : Record → Seat → Spot
+  atCell : Record → Seat → Time → Spot
+  atChange : Record → Seat → Time → (cell : ℕ) → Spot
 
 -- The bytes of what was read.
 unfoldable pub upTo : Limits → Spot → List ℕ
@@ -60,9 +62,9 @@ upTo L (atRounds n t) = numberBytes L n ++ numberBytes L t
 upTo L (atEdits n t R) = numberBytes L n ++ numberBytes L t ++ numberBytes L R
 upTo L (atLossSet h sets) = headerBytes L h ++ lossBytes L sets
 upTo L (atSeat p) = bytesOf L p
-upTo L (atTime p seat) = bytesOf L p ++ numberBytes L seat
-upTo L (atCell p seat time) = bytesOf L p ++ numberBytes L seat ++ numberBytes L time
-upTo L (atChange p seat time cell) = bytesOf L p ++ numberBytes L seat ++ numberBytes L time ++ numberBytes L cell
+upTo L (atTime p seat) = bytesOf L p ++ numberBytes L (seat .0)
+upTo L (atCell p seat time) = bytesOf L p ++ numberBytes L (seat .0) ++ numberBytes L (time .0)
+upTo L (atChange p seat time cell) = bytesOf L p ++ numberBytes L (seat .0) ++ numberBytes L (time .0) ++ numberBytes L cell
 
 -- ════ What the next number has to be ════
 
@@ -71,7 +73,7 @@ fits L atSeats v = within (L .fewestSeats) (L .mostSeats) v
 fits L (atBound n) v = within 0 (n - 1) v
 fits L (atRounds n t) v = within 0 (L .mostRounds) v
 fits L (atEdits n t R) v = within 0 (L .mostEdits) v
-fits L (atLossSet h sets) v = goodSet (h .seats) (length sets % h .seats) v
+fits L (atLossSet h sets) v = goodSet (h .seats) (senderOf (h .seats) (length sets)) v
 fits L (atSeat p) v = within 0 (p .header .seats - 1) v
 fits L (atTime p seat) v = within 0 (p .header .rounds) v
 fits L (atCell p seat time) v = within 0 (L .largestCell) v
@@ -103,12 +105,12 @@ goodUpTo L atSeats = true
 goodUpTo L (atBound n) = fits L atSeats n
 goodUpTo L (atRounds n t) = fits L atSeats n && fits L (atBound n) t
 goodUpTo L (atEdits n t R) = fits L atSeats n && fits L (atBound n) t && fits L (atRounds n t) R
-goodUpTo L (atLossSet h sets) = goodHeader L h && ltb (length sets) (h .seats * h .rounds) && goodSets (h .seats) 0 sets
+goodUpTo L (atLossSet h sets) = goodHeader L h && ltb (length sets) (h .seats * h .rounds) && goodSets (h .seats) firstSeat sets
 goodUpTo L (atSeat p) = goodSoFar L p
-goodUpTo L (atTime p seat) = goodSoFar L p && fits L (atSeat p) seat
-goodUpTo L (atCell p seat time) = goodSoFar L p && fits L (atSeat p) seat && fits L (atTime p seat) time
+goodUpTo L (atTime p seat) = goodSoFar L p && fits L (atSeat p) (seat .0)
+goodUpTo L (atCell p seat time) = goodSoFar L p && fits L (atSeat p) (seat .0) && fits L (atTime p seat) (time .0)
 goodUpTo L (atChange p seat time cell) =
-    goodSoFar L p && fits L (atSeat p) seat && fits L (atTime p seat) time && fits L (atCell p seat time) cell
+    goodSoFar L p && fits L (atSeat p) (seat .0) && fits L (atTime p seat) (time .0) && fits L (atCell p seat time) cell
 
 -- The edit that the next one has to come after.
 unfoldable pub lastOf : Before → List Edit → Before

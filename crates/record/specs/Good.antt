@@ -9,12 +9,13 @@ use lib.Dec.{eqb, leb}
 use lib.ListN.{length}
 use Rattle.farm.specs.Limits.{Limits}
 use Rattle.farm.specs.Sets.{Seats}
+use Rattle.farm.specs.declared.places.Seat.{Seat}
 use Rattle.record.specs.declared.header.Header.{Header}
 use Rattle.record.specs.declared.edits.Edit.{Edit}
 use Rattle.record.specs.declared.edits.Before.{Before}
 use Rattle.record.specs.declared.edits.Before.the-variants.{Nothing, This}
 use Rattle.record.specs.Changes.{mapped}
-use Rattle.record.specs.Losses.{goodSet}
+use Rattle.record.specs.Losses.{firstSeat, seatAfter, goodSet}
 use Rattle.record.specs.Edits.{follows}
 use Rattle.record.specs.Record.{Record}
 
@@ -34,16 +35,16 @@ goodHeader L h =
 -- ════ The losses: for each round, for each sender ════
 
 -- After the last sender of a round comes the first one of the next.
-unfoldable pub senderAfter : (n sender : ℕ) → ℕ
-senderAfter n sender = cond (eqb (suc sender) n) 0 (suc sender)
+unfoldable pub senderAfter : (n : ℕ) → Seat → Seat
+senderAfter n sender = cond (eqb (suc (sender .0)) n) firstSeat (seatAfter sender)
 
 -- The sets of a flat list, the first of them sent by the sender.
-unfoldable pub goodSets : (n sender : ℕ) → List Seats → Bool
+unfoldable pub goodSets : (n : ℕ) (sender : Seat) → List Seats → Bool
 goodSets n sender [] = true
 goodSets n sender (set ∷ sets) = goodSet n sender set && goodSets n (senderAfter n sender) sets
 
 unfoldable pub goodRounds : (n rounds : ℕ) → List Seats → Bool
-goodRounds n R losses = eqb (length losses) (n * R) && goodSets n 0 losses
+goodRounds n R losses = eqb (length losses) (n * R) && goodSets n firstSeat losses
 
 -- ════ The edits ════
 

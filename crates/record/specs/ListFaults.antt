@@ -9,6 +9,7 @@ use Rattle.farm.specs.declared.refusals.Refusal.{Refusal}
 use Rattle.farm.specs.declared.refusals.Refusal.the-variants.{OutOfRange, BadLossSet, BadOrder, BadLengths}
 use Rattle.record.specs.declared.edits.Edit.{Edit}
 use Rattle.record.specs.declared.edits.Before.the-variants.{Nothing}
+use Rattle.record.specs.Losses.{firstSeat}
 use Rattle.record.specs.Edits.{follows}
 use Rattle.record.specs.Good.{goodHeader, goodSets, goodEdit, goodEdits}
 use Rattle.record.specs.Faults.{lastOf}
@@ -19,7 +20,7 @@ use Rattle.record.specs.Writing.{headerFrom, editsIn, fitting}
 pub record ReachedEdit (L : Limits) (n t R : ℕ) (lists : Tables) (front : List Edit) (e : Edit) (rest : List Edit) : Type 0 where
   pub header : goodHeader L (headerFrom n t R lists) ≡ true
   pub lengths : fitting n R lists ≡ true
-  pub losses : goodSets n 0 (lists .losses) ≡ true
+  pub losses : goodSets n firstSeat (lists .losses) ≡ true
   pub cut : front ++ e ∷ rest ≡ editsIn lists
   pub edits : goodEdits L n R Nothing front ≡ true
 
@@ -29,7 +30,7 @@ pub data ListFault (L : Limits) (n t R : ℕ) (lists : Tables) : Refusal → Typ
   -- 10: those are good, and the lengths do not fit.
   badLengths : goodHeader L (headerFrom n t R lists) ≡ true → fitting n R lists ≡ false → ListFault L n t R lists BadLengths
   -- 4: those are good, and some loss set is not.
-  badLosses : goodHeader L (headerFrom n t R lists) ≡ true → fitting n R lists ≡ true → goodSets n 0 (lists .losses) ≡ false
+  badLosses : goodHeader L (headerFrom n t R lists) ≡ true → fitting n R lists ≡ true → goodSets n firstSeat (lists .losses) ≡ false
       → ListFault L n t R lists BadLossSet
   -- 3: all that and the edits in front are good, and a field of the next edit is out of range.
   badField : (front : List Edit) (e : Edit) (rest : List Edit) → ReachedEdit L n t R lists front e rest → goodEdit L n R e ≡ false

@@ -8,6 +8,8 @@ use lib.IntN.{ℤ}
 use lib.ListN.{length, getD, take, drop}
 use Rattle.farm.specs.Limits.{Limits, limits}
 use Rattle.farm.specs.Sets.{Seats, bit}
+use Rattle.farm.specs.declared.places.Seat.{Seat}
+use Rattle.farm.specs.declared.places.Time.{Time}
 use Rattle.farm.specs.declared.refusals.Refusal.{Refusal}
 use Rattle.record.specs.declared.edits.Edit.{Edit}
 use Rattle.record.specs.Taking.{IsBytes, refused}
@@ -44,14 +46,16 @@ Edits-rise-strictly = ((a b : Edit) → (rises a b ≡ true) ↔ IsAfter a b) ×
 -- A loss set is good exactly when every seat in it is below n and is not the sender.
 abbrev pub Loss-set-is-good : Type 0
 Loss-set-is-good =
-    (n sender : ℕ) (set : Seats) → (goodSet n sender set ≡ true) ↔ ((q : ℕ) → bit set q ≡ true → (q < n) × (q ≢ sender))
+    (n : ℕ) (sender : Seat) (set : Seats)
+    → (goodSet n sender set ≡ true) ↔ ((q : Seat) → bit set (q .0) ≡ true → (q .0 < n) × (q ≢ sender))
 
--- The losses are good exactly when there are n sets for each round, and the set at place r * n + z, of round r + 1, is good for sender z.
+-- The losses are good exactly when there are n sets for each round, and the set at place k * n + z, of the round that begins at time k, is
+-- good for sender z.
 abbrev pub Losses-stand-round-by-round : Type 0
 Losses-stand-round-by-round =
     (n R : ℕ) (losses : List Seats)
     → (goodRounds n R losses ≡ true)
-    ↔ ((length losses ≡ n * R) × ((r z : ℕ) → r < R → z < n → goodSet n z (getD losses (r * n + z) 0) ≡ true))
+    ↔ ((length losses ≡ n * R) × ((k : Time) (z : Seat) → k .0 < R → z .0 < n → goodSet n z (getD losses (k .0 * n + z .0) 0) ≡ true))
 
 -- ════ Condition 2: records read back as they were written ════
 

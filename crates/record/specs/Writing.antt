@@ -14,6 +14,7 @@ use Rattle.record.specs.declared.header.Header.{Header}
 use Rattle.record.specs.declared.edits.Edit.{Edit}
 use Rattle.record.specs.declared.edits.Before.{Before}
 use Rattle.record.specs.declared.edits.Before.the-variants.{Nothing, This}
+use Rattle.record.specs.Losses.{firstSeat}
 use Rattle.record.specs.Edits.{follows}
 use Rattle.record.specs.Record.{Record, Reading, good, bad, bytesOf}
 use Rattle.record.specs.Good.{goodHeader, goodSets, goodEdit}
@@ -56,7 +57,7 @@ fitting n R lists =
 unfoldable pub judgedLists : Limits → (n t R : ℕ) → Tables → Verdict
 judgedLists L n t R lists =
     unless (goodHeader L (headerFrom n t R lists)) OutOfRange
-    (unless (fitting n R lists) BadLengths (unless (goodSets n 0 (lists .losses)) BadLossSet (judgedEdits L n R Nothing (editsIn lists))))
+    (unless (fitting n R lists) BadLengths (unless (goodSets n firstSeat (lists .losses)) BadLossSet (judgedEdits L n R Nothing (editsIn lists))))
 
 unfoldable pub recordFrom : (n t R : ℕ) → Tables → Record
 recordFrom n t R lists = record { header = headerFrom n t R lists; losses = lists .losses; edits = editsIn lists }

@@ -11,7 +11,7 @@ ghost use Rattle.telling.specs.Laid.{laid};
 
 // 1 for a place in the core, 0 for one outside. A seat that the counts do not have is outside.
 fn mark_of(core: &[u16], seat: Seat, time: Time) -> u8
-    ensures { λ r. ⌜ r ≡ markAt (held (now (core .entry))) (seat .0) (time .0) ⌝ }
+    ensures { λ r. ⌜ r ≡ markAt (held (now (core .entry))) seat time ⌝ }
 {
     let at = seat.0 as usize;
     if core.len() <= at {

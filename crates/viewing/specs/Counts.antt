@@ -6,10 +6,12 @@ use Prim.Native.Nat.{ℕ, zero, suc, _+_, _*_, _/_, _%_}
 use lib.Dec.{ltb}
 use lib.ListN.{getD}
 use Rattle.farm.specs.Limits.{limits}
-use Rattle.farm.specs.Sets.{Seats, collect}
+use Rattle.farm.specs.Sets.{Seats, bit, collect}
+use Rattle.farm.specs.declared.places.Seat.{Seat}
+use Rattle.farm.specs.declared.places.Time.{Time}
 use Rattle.viewing.specs.declared.sizes.Sizes.{Sizes}
 use Rattle.knowledge.specs.Farm.{Farm, lostIn, farmOf}
-use Rattle.knowledge.specs.Views.{View, view}
+use Rattle.knowledge.specs.Views.{View, upTo, joined, view}
 
 -- The first m values of a function, as a list.
 unfoldable pub tabulate : (m : ℕ) → (ℕ → ℕ) → List ℕ
@@ -68,3 +70,36 @@ arrivals n table r p = collect n (arrives n table r p)
 -- The farm that the numbers n, t, R and a table of loss sets describe.
 abbrev pub farmFor : Sizes → List Seats → Farm
 farmFor sizes table = farmOf (sizes .seats) (sizes .bound) (sizes .rounds) table
+
+-- ════ The same of seats and times, as contracts name them ════
+
+-- The count that a view has of a seat.
+abbrev pub countOf : View → Seat → ℕ
+countOf v q = v (q .0)
+
+-- Whether a send was lost in the round that ends at the time, and the seats whose send to one seat was not.
+abbrev pub isLost : (n : ℕ) → List Seats → Time → (sender receiver : Seat) → Bool
+isLost n table r sender receiver = lostIn n table (r .0) (sender .0) (receiver .0)
+
+abbrev pub heardBy : (n : ℕ) → List Seats → Time → Seat → Seats
+heardBy n table r p = arrivals n table (r .0) (p .0)
+
+-- The view that has one place and the times before it, one seat's view in a table, and the joined views of a set of seats in it.
+abbrev pub ownView : Seat → Time → View
+ownView p k = upTo (p .0) (k .0)
+
+abbrev pub seatView : List ℕ → Seat → View
+seatView table p = viewIn table (p .0)
+
+abbrev pub joinedView : (n : ℕ) → Seats → List ℕ → View
+joinedView n set table = joined n (bit set) (viewIn table)
+
+-- The views of all seats at a time, those of the seats below one, and its own with them.
+abbrev pub allViews : Farm → Time → List ℕ
+allViews farm k = allCounts farm (k .0)
+
+abbrev pub viewsBelow : Farm → Time → Seat → List ℕ
+viewsBelow farm k p = viewsTo farm (k .0) (p .0)
+
+abbrev pub viewsWith : Farm → Time → Seat → List ℕ
+viewsWith farm k p = viewsTo farm (k .0) (suc (p .0))

@@ -5,9 +5,9 @@ use farm::places::Seat;
 use farm::places::Time;
 use farm::sets::holds;
 ghost use mathlib.Core.Path.{_≡_};
-ghost use Prim.Native.Nat.{suc};
 ghost use lib.ListN.{getD};
-ghost use Rattle.knowledge.specs.Farm.{lostIn};
+ghost use Rattle.knowledge.specs.Farm.{after};
+ghost use Rattle.viewing.specs.Counts.{isLost};
 
 // The loss set at an index of the table.
 fn loss_set(losses: &[u16], at: usize) -> u16
@@ -18,7 +18,7 @@ fn loss_set(losses: &[u16], at: usize) -> u16
 
 // Whether a send was lost in the round that begins at the time.
 pub fn was_lost(losses: &[u16], seats: u8, begun: Time, sender: Seat, receiver: Seat) -> bool
-    ensures { λ r. ⌜ r ≡ lostIn seats (now (losses .entry)) (suc (begun .0)) (sender .0) (receiver .0) ⌝ }
+    ensures { λ r. ⌜ r ≡ isLost seats (now (losses .entry)) (after begun) sender receiver ⌝ }
 {
     let at = (begun.0 as usize) * (seats as usize) + (sender.0 as usize);
     holds(loss_set(losses, at), receiver)

@@ -9,12 +9,12 @@ use farm::places::Seat;
 use farm::places::Time;
 ghost use mathlib.Core.Path.{_≡_};
 ghost use mathlib.Core.Bool.{cond};
-ghost use Prim.Native.Nat.{suc, max, _≤_, _<_};
+ghost use Prim.Native.Nat.{max, _≤_, _<_};
 ghost use lib.IntN.{pos};
 ghost use Rattle.farm.specs.Limits.{limits};
-ghost use Rattle.farm.specs.Sets.{bit};
-ghost use Rattle.knowledge.specs.Views.{upTo, joined, viewOf, viewsOf};
-ghost use Rattle.viewing.specs.Counts.{counts, viewIn, arrivals, farmFor, allCounts, viewsTo, firstCounts};
+ghost use Rattle.knowledge.specs.Farm.{after};
+ghost use Rattle.knowledge.specs.Views.{viewOf, viewsOf};
+ghost use Rattle.viewing.specs.Counts.{counts, firstCounts, farmFor, countOf, heardBy, ownView, seatView, joinedView, allViews, viewsBelow, viewsWith};
 
 // Room for one view, and for the views of all seats.
 pub const ROOM: usize = MOST_SEATS as usize;
@@ -44,7 +44,7 @@ fn larger(count: u16, joins: bool, other: u16) -> u16
 // The count of one seat in the joined views of a set of seats.
 fn joined_count(views: &[u16; TABLE], seats: u8, set: u16, of: Seat) -> u16
     requires { ⌜ (seats ≤ limits .mostSeats) × (of .0 < limits .mostSeats) ⌝ }
-    ensures { λ r. ⌜ r ≡ joined seats (bit set) (viewIn (now (views .entry))) (of .0) ⌝ }
+    ensures { λ r. ⌜ r ≡ countOf (joinedView seats set (now (views .entry))) of ⌝ }
 {
     let mut count: u16 = 0;
     let mut rest = set;
@@ -59,7 +59,7 @@ fn joined_count(views: &[u16; TABLE], seats: u8, set: u16, of: Seat) -> u16
 // The seats whose send to this one was not lost in the round that begins at the time.
 fn heard(losses: &[u16], seats: u8, begun: Time, by: Seat) -> u16
     requires { ⌜ seats ≤ limits .mostSeats ⌝ }
-    ensures { λ r. ⌜ r ≡ arrivals seats (now (losses .entry)) (suc (begun .0)) (by .0) ⌝ }
+    ensures { λ r. ⌜ r ≡ heardBy seats (now (losses .entry)) (after begun) by ⌝ }
 {
     let mut set: u16 = 0;
     for s in 0..seats {
@@ -71,7 +71,7 @@ fn heard(losses: &[u16], seats: u8, begun: Time, by: Seat) -> u16
 // The count of q in the view that has only p's place at the time and those before it.
 fn own_count(time: Time, p: Seat, q: Seat) -> u16
     requires { ⌜ time .0 ≤ limits .mostRounds ⌝ }
-    ensures { λ r. ⌜ r ≡ upTo (p .0) (time .0) (q .0) ⌝ }
+    ensures { λ r. ⌜ r ≡ countOf (ownView p time) q ⌝ }
 {
     if q.0 == p.0 { time.0 + 1 } else { 0 }
 }
@@ -81,8 +81,8 @@ fn own_count(time: Time, p: Seat, q: Seat) -> u16
 fn next_count(before: &[u16; TABLE], sizes: Sizes, from: u16, begun: Time, p: Seat, q: Seat) -> u16
     requires { ⌜ (sizes .seats ≤ limits .mostSeats) × (begun .0 < limits .mostRounds) × (p .0 < limits .mostSeats) × (q .0 < limits .mostSeats) ⌝ }
     ensures { λ r.
-        ⌜ r ≡ max (max (upTo (p .0) (suc (begun .0)) (q .0)) (viewIn (now (before .entry)) (p .0) (q .0)))
-        (joined (sizes .seats) (bit from) (viewIn (now (before .entry))) (q .0)) ⌝ }
+        ⌜ r ≡ max (max (countOf (ownView p (after begun)) q) (countOf (seatView (now (before .entry)) p) q))
+        (countOf (joinedView (sizes .seats) from (now (before .entry))) q) ⌝ }
 {
     let own = own_count(Time(begun.0 + 1), p, q);
     let at = (p.0 as usize) * ROOM + (q.0 as usize);
@@ -101,9 +101,9 @@ fn fill_view(
     p: Seat,
 )
     requires { ⌜ (sizes .seats ≤ limits .mostSeats) × (begun .0 < limits .mostRounds) × (p .0 < sizes .seats) ⌝ }
-    requires { ⌜ now before ≡ allCounts (farmFor sizes (now losses)) (begun .0) ⌝ }
-    requires { ⌜ now next ≡ viewsTo (farmFor sizes (now losses)) (suc (begun .0)) (p .0) ⌝ }
-    ensures { λ _. ⌜ now (next .exit) ≡ viewsTo (farmFor sizes (now (losses .entry))) (suc (begun .0)) (suc (p .0)) ⌝ }
+    requires { ⌜ now before ≡ allViews (farmFor sizes (now losses)) begun ⌝ }
+    requires { ⌜ now next ≡ viewsBelow (farmFor sizes (now losses)) (after begun) p ⌝ }
+    ensures { λ _. ⌜ now (next .exit) ≡ viewsWith (farmFor sizes (now (losses .entry))) (after begun) p ⌝ }
 {
     let seats = sizes.seats;
     let from = heard(losses, seats, begun, p);
@@ -116,8 +116,8 @@ fn fill_view(
 // The views of all seats when the round that begins at the time is over.
 fn next_views(losses: &[u16], sizes: Sizes, before: Views, begun: Time) -> Views
     requires { ⌜ (sizes .seats ≤ limits .mostSeats) × (begun .0 < limits .mostRounds) ⌝ }
-    requires { ⌜ before .of ≡ allCounts (farmFor sizes (now losses)) (begun .0) ⌝ }
-    ensures { λ r. ⌜ r .of ≡ allCounts (farmFor sizes (now (losses .entry))) (suc (begun .0)) ⌝ }
+    requires { ⌜ before .of ≡ allViews (farmFor sizes (now losses)) begun ⌝ }
+    ensures { λ r. ⌜ r .of ≡ allViews (farmFor sizes (now (losses .entry))) (after begun) ⌝ }
 {
     let mut next: [u16; TABLE] = [0; TABLE];
     let seats = sizes.seats;
@@ -143,7 +143,7 @@ fn first_views(seats: u8) -> Views
 // The views of all seats at a time.
 pub fn views_at(losses: &[u16], sizes: Sizes, time: Time) -> Views
     requires { ⌜ (sizes .seats ≤ limits .mostSeats) × (time .0 ≤ limits .mostRounds) ⌝ }
-    ensures { λ r. ⌜ r .of ≡ allCounts (farmFor sizes (now (losses .entry))) (time .0) ⌝ }
+    ensures { λ r. ⌜ r .of ≡ allViews (farmFor sizes (now (losses .entry))) time ⌝ }
 {
     let mut views = first_views(sizes.seats);
     for k in 0..time.0 {
@@ -155,7 +155,7 @@ pub fn views_at(losses: &[u16], sizes: Sizes, time: Time) -> Views
 // One seat's part of the table of all views.
 pub fn seat_view(views: &[u16; TABLE], seats: u8, seat: Seat) -> Counts
     requires { ⌜ (seats ≤ limits .mostSeats) × (seat .0 < limits .mostSeats) ⌝ }
-    ensures { λ r. ⌜ r .of ≡ counts seats (viewIn (now (views .entry)) (seat .0)) ⌝ }
+    ensures { λ r. ⌜ r .of ≡ counts seats (seatView (now (views .entry)) seat) ⌝ }
 {
     let mut view: [u16; ROOM] = [0; ROOM];
     for q in 0..seats {
@@ -168,7 +168,7 @@ pub fn seat_view(views: &[u16; TABLE], seats: u8, seat: Seat) -> Counts
 // The views of a set of seats, joined.
 fn joined_view(views: &[u16; TABLE], seats: u8, set: u16) -> Counts
     requires { ⌜ seats ≤ limits .mostSeats ⌝ }
-    ensures { λ r. ⌜ r .of ≡ counts seats (joined seats (bit set) (viewIn (now (views .entry)))) ⌝ }
+    ensures { λ r. ⌜ r .of ≡ counts seats (joinedView seats set (now (views .entry))) ⌝ }
 {
     let mut view: [u16; ROOM] = [0; ROOM];
     for q in 0..seats {

@@ -3,7 +3,7 @@
 use Rattle.checking.proofs.LossSteps.{set-was, round-on, round-stops, round-ends}
 use Rattle.numbers.proofs.CursorLaws.{number-was-refused, refusal-passed}
 use Rattle.checking.specs.Parts.{passedIn}
-use Rattle.record.specs.Losses.{takeRound}
+use Rattle.record.specs.Losses.{firstSeat, takeRound}
 use Rattle.farm.specs.Limits.{limits}
 use denote.Ref.{now}
 use lib.ListN.{length, drop}
@@ -19,7 +19,7 @@ abbrev Inv-loop : tie.InvT-loop
 Inv-loop bytes seats at₀ sender₀ at sender =
     (sender ≤ seats)
     × (at ≤ length bytes)
-    × (passedIn bytes (takeRound limits seats sender (seats - sender) (drop at bytes)) ≡ passedIn bytes (takeRound limits seats 0 seats (drop at₀ bytes)))
+    × (passedIn bytes (takeRound limits seats (record { 0 = sender }) (seats - sender) (drop at bytes)) ≡ passedIn bytes (takeRound limits seats firstSeat seats (drop at₀ bytes)))
 
 abbrev μ-loop : tie.MeasureT-loop
 μ-loop bytes seats at₀ sender₀ at sender = seats - sender
@@ -44,7 +44,7 @@ returns c =
     let a = c .before .before .before .before .before .before .before .args in
     let l = c .before .before .before .before .before .loop in
     let bytes = now (a .bytes) in
-    sym (round-stops limits bytes (a .seats) (l .sender) _ (c .before .before .before .before .loop-test .taken) _
+    sym (round-stops limits bytes (a .seats) (record { 0 = l .sender }) _ (c .before .before .before .before .loop-test .taken) _
     (number-was-refused bytes _ _ (sym (c .before .before .before .read-set .ensures) ∙ refusal-passed _ _ _ (c .refusal-of .ensures) (c .before .enum-told .given .1))))
     ∙ l .inv .2
 
@@ -59,14 +59,14 @@ loop-again c =
     let a = c .before .before .before .before .before .before .before .args in
     let l = c .before .before .before .before .before .loop in
     let bytes = now (a .bytes) in
-    let was = set-was (a .seats) (l .sender) bytes (l .at) _ _ (sym (c .before .before .before .read-set .ensures) ∙ c .before .number .given .1) in
-    (omega (arith, c .before .before .before .before .loop-test .taken), was .inside, round-on limits bytes (a .seats) (l .sender) _ (c .before .before .before .before .loop-test .taken) _ _ (was .took) ∙ l .inv .2)
+    let was = set-was (a .seats) (record { 0 = l .sender }) bytes (l .at) _ _ (sym (c .before .before .before .read-set .ensures) ∙ c .before .number .given .1) in
+    (omega (arith, c .before .before .before .before .loop-test .taken), was .inside, round-on limits bytes (a .seats) (record { 0 = l .sender }) _ (c .before .before .before .before .loop-test .taken) _ _ (was .took) ∙ l .inv .2)
 
 returns-2 : tie.Need-returns-2 Inv-loop μ-loop
 returns-2 c =
     let a = c .before .before .before .args in
     let l = c .before .loop in
-    sym (round-ends limits (now (a .bytes)) (a .seats) (l .sender) (l .at) (c .loop-test .left) (l .inv .1)) ∙ l .inv .2
+    sym (round-ends limits (now (a .bytes)) (a .seats) (record { 0 = l .sender }) (l .at) (c .loop-test .left) (l .inv .1)) ∙ l .inv .2
 
 pub check-round-spec : {M : Type 1} → statement M
 check-round-spec =

@@ -6,13 +6,14 @@ use native.Mathlib.Omega.{arith}
 use lib.ListN.{length, drop}
 use borrow.Author.Tests.{not-true, not-false}
 use borrow.Author.Needs.{needs}
+use Rattle.record.specs.Losses.{firstSeat}
 use Rattle.record.specs.Good.{goodSets}
 use Rattle.judging.proofs.JudgingLaws.{set-stops, set-on, sets-end, sender-below}
 use Rattle.judging.proofs.lists.good_losses.Statement.{statement}
 use Rattle.judging.proofs.lists.good_losses.Tie as tie
 
 abbrev Inv-loop : tie.InvT-loop
-Inv-loop seats losses sender₀ i₀ sender i = (sender < seats) × (goodSets seats sender (drop i losses) ≡ goodSets seats 0 losses)
+Inv-loop seats losses sender₀ i₀ sender i = (sender .0 < seats) × (goodSets seats sender (drop i losses) ≡ goodSets seats firstSeat losses)
 
 abbrev μ-loop : tie.MeasureT-loop
 μ-loop seats losses sender₀ i₀ sender i = length losses - i

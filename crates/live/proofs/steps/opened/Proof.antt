@@ -40,9 +40,9 @@ returns-3 c =
 
 returns-4 : tie.Need-returns-4
 returns-4 c =
-    let a = c .before .before .before .args in
-    accepted-step (opening (a .seats) (a .bound)) (a .table) _ refl
-    (opening-accepted (a .seats) (a .bound) (a .table) (edits-decide limits (emptyHeader (a .seats) (a .bound)) (omega arith) (omega arith) (omega arith) (omega arith)))
+    let at-call = c .before .before .before .args in
+    accepted-step (opening (at-call .seats) (at-call .bound)) (at-call .table) _ refl
+    (opening-accepted (at-call .seats) (at-call .bound) (at-call .table) (edits-decide limits (emptyHeader (at-call .seats) (at-call .bound)) (omega arith) (omega arith) (omega arith) (omega arith)))
 
 pub opened-spec : {M : Type 1} → statement M
 opened-spec =

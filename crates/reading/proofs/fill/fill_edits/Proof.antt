@@ -3,7 +3,6 @@
 use mir.ValLaws.{toZ-ofZ}
 use mir.Val.{SFits}
 use mir.Syntax.{w16}
-use mathlib.Core.Path.{refl}
 use Rattle.reading.proofs.FillLaws.{EditsLeft, edits-start, edits-filled, edits-on, edits-give, edits-no-stop}
 use Rattle.checking.proofs.EditSteps.{edit-was, edit-was-refused}
 use Rattle.record.specs.Tables.{tables}
@@ -35,22 +34,25 @@ enum-known-read c = search needs
 enum-told : tie.Need-enum-told Inv-loop μ-loop
 enum-told c = search needs
 
+edit-refusal-requires : tie.Need-edit-refusal-requires Inv-loop μ-loop
+edit-refusal-requires c κs = search needs
+
 same-length : tie.Need-same-length Inv-loop μ-loop
-same-length c = c .before .before .before .before .loop .inv .seats .kept
+same-length c = c .before .before .before .before .before .loop .inv .seats .kept
 
 same-length-2 : tie.Need-same-length-2 Inv-loop μ-loop
-same-length-2 c = c .before .before .before .before .loop .inv .times .kept
+same-length-2 c = c .before .before .before .before .before .loop .inv .times .kept
 
 same-length-3 : tie.Need-same-length-3 Inv-loop μ-loop
-same-length-3 c = c .before .before .before .before .loop .inv .cells .kept
+same-length-3 c = c .before .before .before .before .before .loop .inv .cells .kept
 
 same-length-4 : tie.Need-same-length-4 Inv-loop μ-loop
-same-length-4 c = c .before .before .before .before .loop .inv .changes .kept
+same-length-4 c = c .before .before .before .before .before .loop .inv .changes .kept
 
 returns : tie.Need-returns Inv-loop μ-loop
 returns c =
-    absurd (edits-no-stop _ _ _ _ _ _ _ _ (c .before .before .before .before .loop .inv) (c .before .before .before .loop-test .taken) _
-    (edit-was-refused _ _ _ _ _ (c .before .before .read-accepted .ensures) refl (c .enum-told .given .1)))
+    absurd (edits-no-stop _ _ _ _ _ _ _ _ (c .before .before .before .before .before .loop .inv) (c .before .before .before .before .loop-test .taken) _
+    (edit-was-refused _ _ _ _ _ (c .before .before .before .read-accepted .ensures) (c .edit-refusal .ensures) (c .before .enum-told .given .1)))
 
 slice-write-seats : tie.Need-slice-write-seats Inv-loop μ-loop
 slice-write-seats c = omega (arith, c .before .before .before .before .before .loop .inv .seats .kept, c .before .before .before .before .before .before .before .before .before .before .pre .2)
@@ -113,6 +115,7 @@ fill-edits-spec =
     read-accepted-requires
     enum-known-read
     enum-told
+    edit-refusal-requires
     same-length
     same-length-2
     same-length-3

@@ -31,14 +31,17 @@ enum-known-number c = search needs
 enum-told : tie.Need-enum-told Inv-loop μ-loop
 enum-told c = search needs
 
+refusal-of-requires : tie.Need-refusal-of-requires Inv-loop μ-loop
+refusal-of-requires c κs = search needs
+
 same-length : tie.Need-same-length Inv-loop μ-loop
-same-length c = c .before .before .before .before .loop .inv .kept
+same-length c = c .before .before .before .before .before .loop .inv .kept
 
 returns : tie.Need-returns Inv-loop μ-loop
 unfolding numberAt
 returns c =
-    absurd (sets-no-stop _ _ _ _ _ _ (c .before .before .before .before .loop .inv) (c .before .before .before .loop-test .taken) _
-    (number-was-refused _ _ _ (sym (c .before .before .read-number .ensures) ∙ c .enum-told .given .1)))
+    absurd (sets-no-stop _ _ _ _ _ _ (c .before .before .before .before .before .loop .inv) (c .before .before .before .before .loop-test .taken) _
+    (number-was-refused _ _ _ (sym (c .before .before .before .read-number .ensures) ∙ c .before .enum-told .given .1)))
 
 cast-losses : tie.Need-cast-losses Inv-loop μ-loop
 cast-losses c =
@@ -78,6 +81,7 @@ fill-losses-spec =
     read-number-requires
     enum-known-number
     enum-told
+    refusal-of-requires
     same-length
     returns
     cast-losses

@@ -44,8 +44,11 @@ enum-known-s c = search needs
 enum-told : tie.Need-enum-told
 enum-told c = search needs
 
+refusal-of-requires : tie.Need-refusal-of-requires
+refusal-of-requires c κs = search needs
+
 returns : tie.Need-returns
-returns c = absurd (not-refused 0 _ _ _ (seat-gives (c .before .before .before .before .args .n) (c .before .before .before .before .args .rounds) (now (c .before .before .before .before .args .bytes)) (c .before .before .before .before .args .from .at) (c .before .before .before .before .pre)) _ (c .before .before .read-number .ensures) _ (c .enum-told .given .1))
+returns c = absurd (not-refused 0 _ _ _ (seat-gives (c .before .before .before .before .before .args .n) (c .before .before .before .before .before .args .rounds) (now (c .before .before .before .before .before .args .bytes)) (c .before .before .before .before .before .args .from .at) (c .before .before .before .before .before .pre)) _ (c .before .before .before .read-number .ensures) _ (c .before .enum-told .given .1))
 
 read-number-requires-2 : tie.Need-read-number-requires-2
 read-number-requires-2 c κs = search needs
@@ -56,9 +59,12 @@ enum-known-t c = search needs
 enum-told-2 : tie.Need-enum-told-2
 enum-told-2 c = search needs
 
+refusal-of-requires-2 : tie.Need-refusal-of-requires-2
+refusal-of-requires-2 c κs = search needs
+
 returns-2 : tie.Need-returns-2
 returns-2 c =
-    absurd (not-refused 0 _ _ _ (time-gives (c .before .before .before .before .before .before .before .before .args .n) (c .before .before .before .before .before .before .before .before .args .rounds) (now (c .before .before .before .before .before .before .before .before .args .bytes)) (c .before .before .before .before .before .before .before .before .args .from .at) (c .before .before .before .before .before .before .before .before .pre) _ (c .before .before .before .before .s .given .0 .1 .0 .at) (seat-was (c .before .before .before) .took)) _ (c .before .before .read-number2 .ensures) _ (c .enum-told2 .given .1))
+    absurd (not-refused 0 _ _ _ (time-gives (c .before .before .before .before .before .before .before .before .before .args .n) (c .before .before .before .before .before .before .before .before .before .args .rounds) (now (c .before .before .before .before .before .before .before .before .before .args .bytes)) (c .before .before .before .before .before .before .before .before .before .args .from .at) (c .before .before .before .before .before .before .before .before .before .pre) _ (c .before .before .before .before .before .s .given .0 .1 .0 .at) (seat-was (c .before .before .before .before) .took)) _ (c .before .before .before .read-number2 .ensures) _ (c .before .enum-told2 .given .1))
 
 read-number-requires-3 : tie.Need-read-number-requires-3
 read-number-requires-3 c κs = search needs
@@ -69,9 +75,12 @@ enum-known-c c = search needs
 enum-told-3 : tie.Need-enum-told-3
 enum-told-3 c = search needs
 
+refusal-of-requires-3 : tie.Need-refusal-of-requires-3
+refusal-of-requires-3 c κs = search needs
+
 returns-3 : tie.Need-returns-3
 returns-3 c =
-    absurd (not-refused 0 65535 _ _ (cell-gives (c .before .before .before .before .before .before .before .before .before .before .before .before .args .n) (c .before .before .before .before .before .before .before .before .before .before .before .before .args .rounds) (now (c .before .before .before .before .before .before .before .before .before .before .before .before .args .bytes)) (c .before .before .before .before .before .before .before .before .before .before .before .before .args .from .at) (c .before .before .before .before .before .before .before .before .before .before .before .before .pre) _ (c .before .before .before .before .before .before .before .before .s .given .0 .1 .0 .at) (seat-was (c .before .before .before .before .before .before .before) .took) _ (c .before .before .before .before .t .given .0 .1 .0 .at) (time-was (c .before .before .before) .took)) _ (c .before .before .read-number3 .ensures) _ (c .enum-told3 .given .1))
+    absurd (not-refused 0 65535 _ _ (cell-gives (c .before .before .before .before .before .before .before .before .before .before .before .before .before .args .n) (c .before .before .before .before .before .before .before .before .before .before .before .before .before .args .rounds) (now (c .before .before .before .before .before .before .before .before .before .before .before .before .before .args .bytes)) (c .before .before .before .before .before .before .before .before .before .before .before .before .before .args .from .at) (c .before .before .before .before .before .before .before .before .before .before .before .before .before .pre) _ (c .before .before .before .before .before .before .before .before .before .s .given .0 .1 .0 .at) (seat-was (c .before .before .before .before .before .before .before .before) .took) _ (c .before .before .before .before .before .t .given .0 .1 .0 .at) (time-was (c .before .before .before .before) .took)) _ (c .before .before .before .read-number3 .ensures) _ (c .before .enum-told3 .given .1))
 
 read-number-requires-4 : tie.Need-read-number-requires-4
 read-number-requires-4 c κs = search needs
@@ -82,9 +91,12 @@ enum-known-d c = search needs
 enum-told-4 : tie.Need-enum-told-4
 enum-told-4 c = search needs
 
+refusal-of-requires-4 : tie.Need-refusal-of-requires-4
+refusal-of-requires-4 c κs = search needs
+
 returns-4 : tie.Need-returns-4
 returns-4 c =
-    absurd (not-refused 0 65535 _ _ (change-gives (c .before .before .before .before .before .before .before .before .before .before .before .before .before .before .before .before .args .n) (c .before .before .before .before .before .before .before .before .before .before .before .before .before .before .before .before .args .rounds) (now (c .before .before .before .before .before .before .before .before .before .before .before .before .before .before .before .before .args .bytes)) (c .before .before .before .before .before .before .before .before .before .before .before .before .before .before .before .before .args .from .at) (c .before .before .before .before .before .before .before .before .before .before .before .before .before .before .before .before .pre) _ (c .before .before .before .before .before .before .before .before .before .before .before .before .s .given .0 .1 .0 .at) (seat-was (c .before .before .before .before .before .before .before .before .before .before .before) .took) _ (c .before .before .before .before .before .before .before .before .t .given .0 .1 .0 .at) (time-was (c .before .before .before .before .before .before .before) .took) _ (c .before .before .before .before .c .given .0 .1 .0 .at) (cell-was (c .before .before .before) .took)) _ (c .before .before .read-number4 .ensures) _ (c .enum-told4 .given .1))
+    absurd (not-refused 0 65535 _ _ (change-gives (c .before .before .before .before .before .before .before .before .before .before .before .before .before .before .before .before .before .args .n) (c .before .before .before .before .before .before .before .before .before .before .before .before .before .before .before .before .before .args .rounds) (now (c .before .before .before .before .before .before .before .before .before .before .before .before .before .before .before .before .before .args .bytes)) (c .before .before .before .before .before .before .before .before .before .before .before .before .before .before .before .before .before .args .from .at) (c .before .before .before .before .before .before .before .before .before .before .before .before .before .before .before .before .before .pre) _ (c .before .before .before .before .before .before .before .before .before .before .before .before .before .s .given .0 .1 .0 .at) (seat-was (c .before .before .before .before .before .before .before .before .before .before .before .before) .took) _ (c .before .before .before .before .before .before .before .before .before .t .given .0 .1 .0 .at) (time-was (c .before .before .before .before .before .before .before .before) .took) _ (c .before .before .before .before .before .c .given .0 .1 .0 .at) (cell-was (c .before .before .before .before) .took)) _ (c .before .before .before .read-number4 .ensures) _ (c .before .enum-told4 .given .1))
 
 cast-t22 : tie.Need-cast-t22
 cast-t22 c = let below = seat-was (c .before .before .before .before .before .before .before .before .before .before .before .before) .below in omega (arith, (c .before .before .before .before .before .before .before .before .before .before .before .before .before .before .before .before .before .fits .n))
@@ -115,18 +127,22 @@ read-accepted-spec =
     read-number-requires
     enum-known-s
     enum-told
+    refusal-of-requires
     returns
     read-number-requires-2
     enum-known-t
     enum-told-2
+    refusal-of-requires-2
     returns-2
     read-number-requires-3
     enum-known-c
     enum-told-3
+    refusal-of-requires-3
     returns-3
     read-number-requires-4
     enum-known-d
     enum-told-4
+    refusal-of-requires-4
     returns-4
     cast-t22
     cast-t24

@@ -10,7 +10,7 @@ cast-at : tie.Need-cast-at
 cast-at c = search needs
 
 returns : tie.Need-returns
-returns c = let a = c .before .before .args in mark-far (now (a .core)) (a .seat .0) (a .time .0) (c .if1 .taken)
+returns c = let a = c .before .before .args in mark-far (now (a .core)) (a .seat) (a .time) (c .if1 .taken)
 
 mul-if2 : tie.Need-mul-if2
 mul-if2 c = search needs
@@ -19,10 +19,10 @@ shared-slice-read-if2 : tie.Need-shared-slice-read-if2
 shared-slice-read-if2 c = search needs
 
 returns-2 : tie.Need-returns-2
-returns-2 c = let a = c .before .before .before .before .before .args in mark-inside (now (a .core)) (a .seat .0) (a .time .0) (c .if2 .taken)
+returns-2 c = let a = c .before .before .before .before .before .args in mark-inside (now (a .core)) (a .seat) (a .time) (c .if2 .taken)
 
 returns-3 : tie.Need-returns-3
-returns-3 c = let a = c .before .before .before .before .before .args in mark-outside (now (a .core)) (a .seat .0) (a .time .0) (c .if2 .left)
+returns-3 c = let a = c .before .before .before .before .before .args in mark-outside (now (a .core)) (a .seat) (a .time) (c .if2 .left)
 
 pub mark-of-spec : {M : Type 1} → statement M
 mark-of-spec =
