@@ -12,7 +12,7 @@ use Rattle.conditions.specs.Good.{GoodRecord}
 use Rattle.conditions.specs.Rules.{AtMostSeats, InNumbers, Answer, Ruled}
 use Rattle.conditions.specs.Answers.{Told}
 
--- The premise: a good record in which at most t seats ever lose a send, t being the record's bound.
+-- The premise: a good record, and no more losers in it than its bound t.
 pub record WithinBound (r : Record) : Type 0 where
   pub isGood : GoodRecord r
   pub fewLosers : AtMostSeats (r .header .seats) (r .header .bound) (Loser (farmOfRecord r))
@@ -44,7 +44,7 @@ abbrev pub Honest-seats-are-told-alike : Type 0
 Honest-seats-are-told-alike =
     (r : Record) → WithinBound r → (p q : Seat) → Honest r p → Honest r q → (ℓ : Time) → ℓ .0 ≤ r .header .rounds → Alike r ℓ p q
 
--- Second part: an edit within such a seat's view at time e is in all of their cores from e + t + 1 to the record's end.
+-- Second part: what one of them has in view at a time e, all of them have in their cores t + 1 rounds later and from then on.
 abbrev pub Seen-edits-are-agreed : Type 0
 Seen-edits-are-agreed =
     (r : Record) → WithinBound r → (p q : Seat) → Honest r p → Honest r q

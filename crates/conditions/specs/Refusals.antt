@@ -36,8 +36,8 @@ use Rattle.conditions.specs.Rules.{AtMostSeats}
 
 -- ════ A record as bytes: 1 to 6 ════
 
--- The first faulty number in byte order decides; for one number 1 or 2 comes before 3 or 4; 5 is tested when an edit is complete.
--- `Fault` has these words for each number.
+-- From the front, the first number at fault decides. `Fault` says for each refusal what stands before that number, and what is wrong
+-- with it.
 pub data BytesGive (bytes : List ℕ) : ℕ → Type 0 where
   none : (r : Record) → GoodRecord r → bytesOf r ≡ bytes → BytesGive bytes 0
   one : Fault limits bytes EndsEarly → BytesGive bytes 1

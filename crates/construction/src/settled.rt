@@ -1,5 +1,5 @@
-// Rules 3 to 6 of document 01: the construction. From the known set of the asking seat's own view
-// each step is worked from the one before until a step brings no change.
+// Rules 3 to 6 of document 01: the construction. It begins with the known set of the asking seat's own
+// view, and takes step after step, each from the last, to the first that changes nothing.
 use crate::known::known_in;
 use crate::known::known_of;
 use crate::sets::seats_outside;

@@ -8,7 +8,7 @@ use Rattle.farm.specs.declared.places.Time.{Time}
 use Rattle.knowledge.specs.Farm.{Farm, Place, IsSeat, Lost}
 use Rattle.knowledge.specs.Views.{View, viewOf}
 
--- In its own words: the view has a place (q, r), r ≥ 1, and z's send to q in round r was lost.
+-- In its own words: some place of the view comes after a round in which its seat missed what z sent.
 pub record Known (farm : Farm) (view : Place → Type 0) (z : Seat) : Type 0 where
   pub at : Place
   pub real : IsSeat farm (at .seat)

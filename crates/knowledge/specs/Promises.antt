@@ -50,7 +50,7 @@ Views-are-computed =
     (farm : Farm) (set : Seats) (k : ℤ) (x : Place)
     → InViews farm set k x ↔ AtMost (x .time) (latest (viewsOf farm set k (x .seat .0)))
 
--- Rule 1: a view holds, for each seat, all times up to a latest one.
+-- Rule 1: where a view has a time of a seat, it has the earlier ones too.
 abbrev pub View-holds-earlier-times : Type 0
 View-holds-earlier-times =
     (farm : Farm) (p q : Seat) (k j i : Time) → i .0 ≤ j .0 → InView farm (place q j) p k → InView farm (place q i) p k
@@ -163,7 +163,7 @@ Deadline =
     (farm : Farm) → BoundFits farm → (ℓ : Time) → FewLosersBy farm ℓ → (p q : Seat) → IsSeat farm p → IsSeat farm q → CleanBy farm ℓ p
     → (e : Time) → e .0 + farm .bound + 1 ≤ ℓ .0 → (x : Place) → InView farm x p e → (o : Outcome) → IsOutcome farm q ℓ o → InCore x o
 
--- ════ Condition 3, of a whole record in which at most t seats ever lose a send ════
+-- ════ Condition 3, of a whole record with no more losers than its bound ════
 
 -- First part: whatever the rules answer two seats that never lose a send, at any time of the record, is alike.
 abbrev pub Clean-seats-agree : Type 0

@@ -37,7 +37,7 @@ abbrev pub IsOutcome : Farm → Seat → Time → Outcome → Type 0
 IsOutcome farm p ℓ overBound = farm .bound < size (farm .seats) (stage farm p ℓ 0 .known)
 IsOutcome farm p ℓ (settled s) = (size (farm .seats) (stage farm p ℓ 0 .known) ≤ farm .bound) × IsSettled farm p ℓ s
 
--- ════ Computed: each step is worked from the one before until a step brings no change ════
+-- ════ Computed: step after step, each from the last, to the first that changes nothing ════
 
 -- The critical time that follows from a known set, and the view that is then looked at.
 unfoldable pub criticalTime : Farm → (ℓ : ℕ) → Seats → ℤ

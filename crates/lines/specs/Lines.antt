@@ -26,8 +26,7 @@ unfoldable pub standing : (loser : Bool) → Text
 standing false = ascii "C"
 standing true = ascii "L"
 
--- Time, seat, C or L, critical time, steps, n core numbers, count of edits in the core. Where n is above 7, the seven
--- core numbers that there are.
+-- The line of a place, in the order of the fields of `PlaceLine`. Where n is above 7, the seven core numbers that there are.
 unfoldable pub placeLine : PlaceLine → Text
 placeLine p =
     line (decimal (p .time .0)) (
@@ -40,7 +39,7 @@ placeLine p =
 unfoldable pub placeText : Time → Seat → (loser : Bool) → Text
 placeText time seat loser = decimal (time .0) ++ following (decimal (seat .0) ∷ standing loser ∷ [])
 
--- After the C or L stands `over` alone where 9 is given.
+-- A place that is refused 9: `over` takes the room of its numbers.
 unfoldable pub overLine : Time → Seat → (loser : Bool) → Text
 overLine time seat loser = line (decimal (time .0)) (decimal (seat .0) ∷ standing loser ∷ ascii "over" ∷ [])
 

@@ -1,5 +1,5 @@
-// Seven-bit numbers, read at a cursor. A number ends in its value with the next cursor, or in a
-// refusal, which goes up to the caller unchanged.
+// Seven-bit numbers, read at a cursor: a value with the cursor behind it, or a refusal for the caller
+// to hand up as it is.
 use farm::refusals::Refusal;
 ghost use mathlib.Core.Path.{_≡_};
 ghost use Rattle.numbers.specs.Cursors.{numberAt, withinAt, refusalIn};

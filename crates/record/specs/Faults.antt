@@ -1,6 +1,6 @@
--- Why a byte string is refused, in document 01's own words: the first faulty number in byte order decides; for one number 1 or 2
--- comes before 3 or 4; 5 is tested when an edit is complete; 6 is last. No reading is done here: a byte string is cut after what is
--- good, and the number that comes next is looked at.
+-- Why a byte string is refused, as document 01 orders it: from the front, the first number at fault decides; its form (1, 2) is
+-- looked at before its value (3, 4); an edit's order (5) once its four numbers are there; and what is left over (6) at the end. No
+-- reading is done here: a byte string is cut after what is good, and the number that comes next is looked at.
 use mathlib.Core.Path.{_≡_}
 use mathlib.Core.Bool.{Bool, true, false, _&&_}
 use mathlib.Core.List.{List, [], _∷_, _++_}

@@ -1,4 +1,4 @@
--- The losses: for each round, for each sending seat, the set of seats that its send did not reach.
+-- The losses, round by round and in each round sender by sender: the set of seats that missed the send.
 use mathlib.Core.Bool.{Bool, not, _&&_}
 use mathlib.Core.List.{List, [], _∷_, _++_}
 use Prim.Native.Nat.{ℕ, zero, suc, _%_, _^_}

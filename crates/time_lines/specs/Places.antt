@@ -16,8 +16,7 @@ Counting = View → ℕ
 
 -- ════ The line of a place ════
 
--- Time, seat, C for clean or L for loser, critical time, steps, n core numbers, count of edits in the core. After the C or L
--- stands `over` alone where 9 is given. A seat is a loser over the whole record, whatever the time.
+-- What the rules settle there, or `over` where they refuse (9). The letter tells of the whole record, whatever the time of the line.
 unfoldable pub lineOf : Farm → Counting → Time → Seat → Outcome → Text
 lineOf farm counting ℓ p overBound = overLine ℓ p (bit (losers farm) (p .0))
 lineOf farm counting ℓ p (settled s) =

@@ -1,4 +1,4 @@
-//! A height change d is written as 2 × d for d ≥ 0 and as −2 × d − 1 below.
+//! A height change as a number: even from 0 up, odd below, by its distance.
 
 pub fn mapped(change: i32) -> u32 {
     if change >= 0 {

@@ -1,5 +1,5 @@
-//! Numbers in groups of seven bits, lowest group first, one byte a group; the
-//! top bit says that another byte follows.
+//! A number is cut into pieces of seven bits, the low ones in front. A byte
+//! holds a piece, and its top bit is set unless the piece is the last.
 
 use crate::refusal::Refusal;
 

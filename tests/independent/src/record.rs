@@ -33,7 +33,7 @@ impl Edit {
         Place { seat: self.seat, time: self.time }
     }
 
-    /// Edits stand in strictly rising order of time, then seat, then cell.
+    /// Whether this edit may follow that one.
     pub fn is_after(&self, before: &Edit) -> bool {
         (self.time, self.seat, self.cell) > (before.time, before.seat, before.cell)
     }
@@ -44,8 +44,8 @@ pub struct Record {
     pub seats: usize,
     pub bound: usize,
     pub rounds: Time,
-    /// For each round, for each sending seat, the set of seats its send did
-    /// not reach: bit q for seat q.
+    /// Round by round, and in each round sender by sender: who missed the
+    /// send, seat q as bit q.
     pub losses: Vec<u32>,
     pub edits: Vec<Edit>,
 }

@@ -8,7 +8,7 @@ pub enum Refusal {
     Form = 2,
     /// A header number or a field of an edit is out of range.
     Range = 3,
-    /// A loss set with the sender's own bit, or with a bit at n or above.
+    /// A loss set with a bit that it may not have.
     LossSet = 4,
     /// An edit not after the one before.
     Order = 5,
@@ -16,11 +16,11 @@ pub enum Refusal {
     BytesLeft = 6,
     /// A lent buffer too short.
     Room = 7,
-    /// A question's seat not below n, or its time above R.
+    /// Asked about a seat or a time that the record does not have.
     Question = 8,
     /// The seat's view shows more than t known seats.
     Over = 9,
-    /// Lists whose lengths do not fit each other or n and R.
+    /// Lists of the wrong length.
     Lengths = 10,
     /// A live round when 127 are done.
     RoundsFull = 11,

@@ -28,8 +28,8 @@ impl Lent {
         }
     }
 
-    /// 7 first, whatever the record holds; then the record's own refusals.
-    /// Entries past the used ones stay.
+    /// The room is looked at before the record. What the record does not
+    /// need is left alone.
     pub fn read(&mut self, bytes: &[u8]) -> Result<Record, Refusal> {
         if self.is_short() {
             return Err(Refusal::Room);

@@ -1,4 +1,4 @@
--- `record::edit_reader::check_edits` meets its contract. The loop's invariant: all edits end as what is left of them does, after the last one read.
+-- `checking::edit_reader::check_edits` meets its contract. The loop's invariant: all edits end as what is left of them does, after the last one read.
 -- Assumes nothing.
 use Rattle.checking.proofs.EditSteps.{edit-was, edit-was-refused, edits-on, edits-stop, edits-disorder, edits-end}
 use Rattle.checking.specs.Parts.{passedIn}

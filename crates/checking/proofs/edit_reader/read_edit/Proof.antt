@@ -1,4 +1,4 @@
--- `record::edit_reader::read_edit` meets its contract: the four fields stand one after the other, and the first refusal is the edit's.
+-- `checking::edit_reader::read_edit` meets its contract: the four fields stand one after the other, and the first refusal is the edit's.
 -- Assumes nothing.
 use Rattle.checking.specs.declared.answers.EditRead.the-variants.{Edit as EditFound}
 use mir.ValLaws.{toZ-ofZ}

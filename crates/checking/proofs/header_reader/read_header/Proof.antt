@@ -1,4 +1,4 @@
--- `record::header::read_header` meets its contract: the four fields stand one after the other, and the first refusal is the header's.
+-- `checking::header_reader::read_header` meets its contract: the four fields stand one after the other, and the first refusal is the header's.
 -- Assumes nothing.
 use Rattle.numbers.proofs.CursorLaws.{Field, field-was, field-refused, cursor-drop}
 use Rattle.checking.specs.Parts.{headerIn}

@@ -1,4 +1,4 @@
--- `record::losses::check_losses` meets its contract. The loop's invariant: all rounds end as what is left of them does.
+-- `checking::loss_reader::check_losses` meets its contract. The loop's invariant: all rounds end as what is left of them does.
 -- Assumes nothing.
 use Rattle.checking.proofs.LossSteps.{round-was, rounds-on, rounds-stop, rounds-end}
 use Rattle.checking.proofs.PassedLaws.{passed-was-refused, passed-refusal-passed}

@@ -1,4 +1,4 @@
--- `record::losses::check_round` meets its contract. The loop's invariant: the whole round ends as what is left of it does.
+-- `checking::loss_reader::check_round` meets its contract. The loop's invariant: the whole round ends as what is left of it does.
 -- Assumes nothing.
 use Rattle.checking.proofs.LossSteps.{set-was, round-on, round-stops, round-ends}
 use Rattle.numbers.proofs.CursorLaws.{number-was-refused, refusal-passed}

@@ -1,4 +1,4 @@
--- `record::losses::read_set` meets its contract: a refusal of the number goes up unchanged, and then the set is tested.
+-- `checking::loss_reader::read_set` meets its contract: a refusal of the number goes up unchanged, and then the set is tested.
 -- Assumes nothing.
 use Rattle.numbers.proofs.CursorLaws.{number-refused, number-value, number-was, number-was-refused, refusal-passed}
 use Rattle.record.proofs.LossLaws.{set-refused, set-tested}

@@ -1,4 +1,4 @@
--- `record::read::check` meets its contract: header, losses and edits stand one after the other, the first refusal is the record's,
+-- `checking::whole::check` meets its contract: header, losses and edits stand one after the other, the first refusal is the record's,
 -- and bytes that are left come last. Assumes nothing.
 use Rattle.checking.proofs.RecordLaws.{from, Head, header-was, header-was-refused, Looked, losses-looked, edits-looked, part-refused, reading-no-header, reading-no-losses, reading-no-edits, bytes-left, no-bytes-left}
 use Rattle.record.specs.Answers.{checkedOf}

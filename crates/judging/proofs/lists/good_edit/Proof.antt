@@ -1,4 +1,4 @@
--- `record::judging::good_edit` meets its contract: the first field out of its range decides.
+-- `judging::lists::good_edit` meets its contract: the first field out of its range decides.
 -- Assumes nothing.
 use mathlib.Core.Path.{sym, _∙_, ap, _≡_}
 use Prim.Native.Nat.{ℕ}

@@ -1,4 +1,4 @@
--- `record::judging::good_header` meets its contract: the first number out of its range decides.
+-- `judging::lists::good_header` meets its contract: the first number out of its range decides.
 -- Assumes nothing.
 use mathlib.Core.Path.{sym}
 use native.Mathlib.Omega.{arith}

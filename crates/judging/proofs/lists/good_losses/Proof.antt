@@ -1,4 +1,4 @@
--- `record::judging::good_losses` meets its contract. The loop's invariant: all the sets are good if what is left of them is, from the sender that comes next.
+-- `judging::lists::good_losses` meets its contract. The loop's invariant: all the sets are good if what is left of them is, from the sender that comes next.
 -- Assumes nothing.
 use mathlib.Core.Path.{_≡_, refl, sym, _∙_}
 use Prim.Native.Nat.{_-_, _<_}

@@ -1,4 +1,4 @@
--- `record::judging::judge` meets its contract: each test in document 01's order decides, or leaves the rest to decide.
+-- `judging::lists::judge` meets its contract: each test in document 01's order decides, or leaves the rest to decide.
 -- Assumes nothing.
 use mathlib.Core.Path.{sym, _∙_, ap}
 use native.Mathlib.Omega.{arith}

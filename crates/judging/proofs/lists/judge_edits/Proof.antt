@@ -1,4 +1,4 @@
--- `record::judging::judge_edits` meets its contract. The loop's invariant: all the edits are judged as what is left of them is, after the last one.
+-- `judging::lists::judge_edits` meets its contract. The loop's invariant: all the edits are judged as what is left of them is, after the last one.
 -- Assumes nothing.
 use mathlib.Core.Path.{_≡_, refl, sym, _∙_, ap}
 use Prim.Native.Nat.{_-_}

@@ -1,4 +1,4 @@
--- `record::judging::lengths_fit` meets its contract: the first length that does not fit decides.
+-- `judging::lists::lengths_fit` meets its contract: the first length that does not fit decides.
 -- Assumes nothing.
 use mathlib.Core.Path.{sym}
 use Prim.Native.Nat.{_*_, _≤_}

@@ -1,4 +1,4 @@
--- `record::judging::sender_after` meets its contract: the sender after the last is the first.
+-- `judging::lists::sender_after` meets its contract: the sender after the last is the first.
 -- Assumes nothing.
 use mathlib.Core.Path.{sym}
 use borrow.Author.Needs.{needs}

@@ -1,4 +1,4 @@
--- `record::numbers::read_number` meets its contract: at each `return` the tests that led there say which byte ended the number, and how.
+-- `numbers::read::read_number` meets its contract: at each `return` the tests that led there say which byte ended the number, and how.
 -- Assumes nothing.
 use native.Mathlib.Nat.{pos-of-ne-zero}
 use Prim.Native.Nat.{_+_}

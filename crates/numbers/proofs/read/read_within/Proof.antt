@@ -1,4 +1,4 @@
--- `record::numbers::read_within` meets its contract: a refusal of the number goes up unchanged, and a value outside the range is refused.
+-- `numbers::read::read_within` meets its contract: a refusal of the number goes up unchanged, and a value outside the range is refused.
 -- Assumes nothing.
 use Rattle.numbers.proofs.CursorLaws.{number-refused, number-value, number-was, number-was-refused, refusal-passed}
 use Rattle.record.proofs.NumberLaws.{within-refused, within-below, within-above, within-good}

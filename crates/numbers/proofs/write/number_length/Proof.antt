@@ -1,4 +1,4 @@
--- `record::writing::number_length` meets its contract: the sizes at which a number takes another byte are 128 and 128 × 128.
+-- `numbers::write::number_length` meets its contract: the sizes at which a number takes another byte are 128 and 128 × 128.
 -- Assumes nothing.
 use mathlib.Core.Path.{sym, ap}
 use Prim.Native.Nat.{_-_}

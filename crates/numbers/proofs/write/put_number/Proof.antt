@@ -1,4 +1,4 @@
--- `record::writing::put_number` meets its contract: the bytes that are stored, one after the other, are the number's.
+-- `numbers::write::put_number` meets its contract: the bytes that are stored, one after the other, are the number's.
 -- Assumes nothing.
 use mathlib.Core.Path.{ap}
 use native.Mathlib.Omega.{arith}

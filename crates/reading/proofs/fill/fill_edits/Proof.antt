@@ -1,4 +1,4 @@
--- `record::fill::fill_edits` meets its contract. The loop's invariant: what is left to take makes the four lists what they are to be.
+-- `reading::fill::fill_edits` meets its contract. The loop's invariant: what is left to take makes the four lists what they are to be.
 -- Assumes nothing.
 use mir.ValLaws.{toZ-ofZ}
 use mir.Val.{SFits}

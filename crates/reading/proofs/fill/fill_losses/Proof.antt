@@ -1,4 +1,4 @@
--- `record::fill::fill_losses` meets its contract. The loop's invariant: what is left to take makes the table what it is to be.
+-- `reading::fill::fill_losses` meets its contract. The loop's invariant: what is left to take makes the table what it is to be.
 -- Assumes nothing.
 use Rattle.reading.proofs.FillLaws.{SetsLeft, sets-start, sets-end, sets-on, sets-no-stop}
 use Rattle.numbers.proofs.CursorLaws.{number-was, number-was-refused}

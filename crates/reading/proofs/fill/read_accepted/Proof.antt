@@ -1,4 +1,4 @@
--- `record::fill::read_accepted` meets its contract: the four fields that were taken stand one after the other, and none of them is refused.
+-- `reading::fill::read_accepted` meets its contract: the four fields that were taken stand one after the other, and none of them is refused.
 -- Assumes nothing.
 use Rattle.checking.specs.declared.answers.EditRead.the-variants.{Edit as EditFound}
 use mir.ValLaws.{toZ-ofZ}

@@ -1,4 +1,4 @@
--- `record::writing::accepted_length` meets its contract: a byte for each loss set, seat and time, and the lengths of the other numbers are together the record's.
+-- `writing::counting::accepted_length` meets its contract: a byte for each loss set, seat and time, and the lengths of the other numbers are together the record's.
 -- Assumes nothing.
 use native.Mathlib.Omega.{arith}
 use denote.Ref.{now}

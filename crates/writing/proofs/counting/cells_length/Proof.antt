@@ -1,4 +1,4 @@
--- `record::writing::cells_length` meets its contract. The loop's invariant: what is counted and what is left are the whole, and a cell takes at most three bytes.
+-- `writing::counting::cells_length` meets its contract. The loop's invariant: what is counted and what is left are the whole, and a cell takes at most three bytes.
 -- Assumes nothing.
 use mathlib.Core.Path.{_≡_}
 use Prim.Native.Nat.{_+_, _-_, _*_, _≤_}

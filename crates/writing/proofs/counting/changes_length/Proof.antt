@@ -1,4 +1,4 @@
--- `record::writing::changes_length` meets its contract. The loop's invariant: what is counted and what is left are the whole, and a change takes at most three bytes.
+-- `writing::counting::changes_length` meets its contract. The loop's invariant: what is counted and what is left are the whole, and a change takes at most three bytes.
 -- Assumes nothing.
 use mathlib.Core.Path.{_≡_, _∙_, ap}
 use Prim.Native.Nat.{ℕ, _+_, _-_, _*_, _≤_}

@@ -1,4 +1,4 @@
--- `record::writing::has_room` meets its contract: no accepted lists take more bytes than any record of as many sets and edits can, and else the length decides.
+-- `writing::counting::has_room` meets its contract: no accepted lists take more bytes than any record of as many sets and edits can, and else the length decides.
 -- Assumes nothing.
 use mathlib.Core.Path.{sym, ap}
 use Prim.Native.Nat.{ℕ}

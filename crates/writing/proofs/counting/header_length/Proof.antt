@@ -1,4 +1,4 @@
--- `record::writing::header_length` meets its contract: it is the sum of the lengths of its numbers.
+-- `writing::counting::header_length` meets its contract: it is the sum of the lengths of its numbers.
 -- Assumes nothing.
 use Prim.Native.Nat.{_-_}
 use native.Mathlib.Omega.{arith}

@@ -1,4 +1,4 @@
--- `record::writing::length` meets its contract: the refusal of the judgement goes up unchanged, and the length of accepted lists is the record's.
+-- `writing::lists::length` meets its contract: the refusal of the judgement goes up unchanged, and the length of accepted lists is the record's.
 -- Assumes nothing.
 use mathlib.Core.Path.{sym, _∙_, ap}
 use denote.Ref.{now}

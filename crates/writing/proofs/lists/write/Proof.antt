@@ -1,4 +1,4 @@
--- `record::writing::write` meets its contract: a refusal goes up unchanged with the buffer untouched, and the record's bytes are put where there is room for all of them.
+-- `writing::lists::write` meets its contract: a refusal goes up unchanged with the buffer untouched, and the record's bytes are put where there is room for all of them.
 -- Assumes nothing.
 use mathlib.Core.Path.{sym, _∙_}
 use denote.Ref.{now}

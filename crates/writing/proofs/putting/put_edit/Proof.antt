@@ -1,4 +1,4 @@
--- `record::writing::put_edit` meets its contract: its four numbers stand one after the other.
+-- `writing::putting::put_edit` meets its contract: its four numbers stand one after the other.
 -- Assumes nothing.
 use mathlib.Core.Path.{_∙_, ap}
 use native.Mathlib.Omega.{arith}

@@ -1,4 +1,4 @@
--- `record::writing::put_edits` meets its contract. The loop's invariant: what is left, put at the present place, makes the buffer that all of them make.
+-- `writing::putting::put_edits` meets its contract. The loop's invariant: what is left, put at the present place, makes the buffer that all of them make.
 -- Assumes nothing.
 use mathlib.Core.Path.{_≡_}
 use Prim.Native.Nat.{_+_, _-_}
