@@ -227,6 +227,17 @@ room t e =
       changes = leb-true _ _ (d .1);
     }
 
+pub enough : (t : Tables) → Room t → roomy limits t ≡ true
+unfolding roomy
+enough t w =
+    rw (
+      le-leb 889 (length (t .losses)) (w .losses),
+      le-leb 512 (length (t .seats)) (w .seats),
+      le-leb 512 (length (t .times)) (w .times),
+      le-leb 512 (length (t .cells)) (w .cells),
+      le-leb 512 (length (t .changes)) (w .changes),
+    )
+
 -- Which test decides, from the lengths.
 module _ (losses seats times cells changes : ℕ) where
   pub few-losses : losses < 889 → roomFor losses seats times cells changes ≡ false
