@@ -18,6 +18,7 @@ use Rattle.record.specs.declared.edits.Before.{Before}
 use Rattle.record.specs.declared.edits.Before.the-variants.{Nothing, This}
 use Rattle.record.specs.Edits.{follows}
 use Rattle.record.specs.Good.{goodHeader, goodSets, goodRounds, goodEdit, goodEdits, goodRecord}
+use Rattle.record.specs.Losses.{firstSeat}
 use Rattle.record.specs.Record.{Record}
 use Rattle.record.proofs.GoodLaws.{header-facts, header-from-facts, edit-facts, edit-from-facts, record-facts, record-from-facts}
 use Rattle.record.proofs.Promises.{edits-rise-strictly, loss-set-is-good, losses-stand-round-by-round}
@@ -29,12 +30,12 @@ numbers-fit h = (
   λ f. header-from-facts limits h (record { fewest = f .fewest; most = f .most; bound = omega arith; rounds = f .rounds; edits = f .edits }),
 )
 
-pub losses-fit : (n R : ℕ) (losses : List Seats) → length losses ≡ n * R → (goodSets n 0 losses ≡ true) ↔ LossesFit n R losses
+pub losses-fit : (n R : ℕ) (losses : List Seats) → length losses ≡ n * R → (goodSets n firstSeat losses ≡ true) ↔ LossesFit n R losses
 unfolding goodRounds
 losses-fit n R losses long =
     let rounds = losses-stand-round-by-round n R losses in (
-      λ g r z hr hz. loss-set-is-good n z _ .0 (rounds .0 (and-intro _ _ (eq-eqb _ _ long) g) .1 r z hr hz),
-      λ f. and-elim (eqb (length losses) (n * R)) _ (rounds .1 (long, λ r z hr hz. loss-set-is-good n z _ .1 (f r z hr hz))) .1,
+      λ g k z hk hz. loss-set-is-good n z _ .0 (rounds .0 (and-intro _ _ (eq-eqb _ _ long) g) .1 k z hk hz),
+      λ f. and-elim (eqb (length losses) (n * R)) _ (rounds .1 (long, λ k z hk hz. loss-set-is-good n z _ .1 (f k z hk hz))) .1,
     )
 
 pub edit-fits : (n R : ℕ) (e : Edit) → 0 < n → (goodEdit limits n R e ≡ true) ↔ EditFits n R e

@@ -6,6 +6,8 @@ use mathlib.Core.List.{List, [], _∷_}
 use Prim.Native.Nat.{ℕ, _+_, _*_, _≤_, _<_}
 use lib.ListN.{length, getD}
 use Rattle.farm.specs.Sets.{Seats, bit}
+use Rattle.farm.specs.declared.places.Seat.{Seat}
+use Rattle.farm.specs.declared.places.Time.{Time}
 use Rattle.record.specs.declared.edits.Edit.{Edit}
 use Rattle.record.specs.declared.edits.Before.{Before}
 use Rattle.record.specs.declared.edits.Before.the-variants.{Nothing, This}
@@ -21,10 +23,10 @@ pub record NumbersFit (n t R E : ℕ) : Type 0 where
   pub rounds : R ≤ 127
   pub edits : E ≤ 512
 
--- For each round and each sending seat z: no bit at n or above, and not the sender's own.
+-- For each sender z and each round, k being the time at which it begins: the set has seats of the record only, and not the sender.
 abbrev pub LossesFit : (n R : ℕ) → List Seats → Type 0
 LossesFit n R losses =
-    (r z : ℕ) → r < R → z < n → (q : ℕ) → bit (getD losses (r * n + z) 0) q ≡ true → (q < n) × (q ≢ z)
+    (k : Time) (z : Seat) → k .0 < R → z .0 < n → (q : Seat) → bit (getD losses (k .0 * n + z .0) 0) (q .0) ≡ true → (q .0 < n) × (q ≢ z)
 
 -- An edit's seat, time, cell and mapped change in range.
 pub record EditFits (n R : ℕ) (e : Edit) : Type 0 where
