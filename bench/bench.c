@@ -1,7 +1,8 @@
-// Measures the library beside the same rules in plain C, in one binary and one run. Both codes first do the same
-// work on many inputs and must leave the same bytes; then they are timed in turns, and the stack of each is painted.
+// Measures the library beside the same rules in plain C, in one binary and one run. Both codes first get the same
+// inputs, good and faulty, and have to leave the same bytes; then they are timed in turns, and the stack of each is
+// painted. Every exported function is in the table of operations.
+#include "input.h"
 #include "plain.h"
-#include "ricecrock.h"
 
 #include <stdio.h>
 #include <stdlib.h>
@@ -10,360 +11,300 @@
 #include <ucontext.h>
 
 enum {
-    SEATS = 7,
-    BOUND = 6,
-    ROUNDS = 127,
     MOST_SAMPLES = 401,
-    FEWEST_SAMPLES = 15,
+    FEWEST_SAMPLES = 9,
     BATCH_NANOSECONDS = 40000,
-    ALL_NANOSECONDS = 400000000,
+    ALL_NANOSECONDS = 150000000,
     STACK_BYTES = 1 << 20,
     PAINT = 0xA5,
-    TRIALS = 40000,
+    TRIALS = 5000,
+    MOST_FAULTS = 3,
 };
 
-// One of the two codes.
-struct code {
-    const char *name;
-    __typeof__(ricecrock_bytes_read) *read;
-    __typeof__(ricecrock_lists_write) *write;
-    __typeof__(ricecrock_bytes_core) *core;
-    __typeof__(ricecrock_bytes_page) *page;
-    __typeof__(ricecrock_table_open) *open;
-    __typeof__(ricecrock_table_add_round) *add_round;
-    __typeof__(ricecrock_table_add_edit) *add_edit;
-};
-
-static const struct code library = {
-    "library",
-    ricecrock_bytes_read,
-    ricecrock_lists_write,
-    ricecrock_bytes_core,
-    ricecrock_bytes_page,
-    ricecrock_table_open,
-    ricecrock_table_add_round,
-    ricecrock_table_add_edit,
-};
-static const struct code plain = {
-    "C",
-    plain_bytes_read,
-    plain_lists_write,
-    plain_bytes_core,
-    plain_bytes_page,
-    plain_table_open,
-    plain_table_add_round,
-    plain_table_add_edit,
-};
-
-// A record as lists and as bytes.
-struct record {
-    uint8_t seats;
-    uint8_t bound;
-    uint16_t rounds;
-    uint16_t edits;
-    uint16_t losses[RICECROCK_LOSS_SETS];
-    uint8_t editors[RICECROCK_EDITS];
-    uint16_t times[RICECROCK_EDITS];
-    uint32_t cells[RICECROCK_EDITS];
-    int16_t changes[RICECROCK_EDITS];
-    uint8_t bytes[RICECROCK_RECORD];
-    size_t length;
-};
-
-// Everything that is lent to a call, and what it answered, number by number: the bytes between the fields of a result
-// may differ.
-struct lent {
-    uint16_t losses[RICECROCK_LOSS_SETS];
-    uint8_t editors[RICECROCK_EDITS];
-    uint16_t times[RICECROCK_EDITS];
-    uint32_t cells[RICECROCK_EDITS];
-    int16_t changes[RICECROCK_EDITS];
-    uint16_t header[4];
-    uint8_t out[RICECROCK_RECORD];
-    size_t length;
-    int16_t core[SEATS];
-    uint8_t page[RICECROCK_PAGE];
-    size_t page_length;
-    struct ricecrock_table table;
-    uint8_t answer;
-    uint8_t answers[7];
-};
-
-static struct record longest, typical, played;
-static struct lent lent_library, lent_plain;
-
-static void fail(const char *what)
+static void fail(const char *function, const char *what)
 {
-    printf("FAILED: %s\n", what);
+    printf("FAILED: %s: %s\n", function, what);
     exit(1);
 }
 
-// ---- Records ----
+// ---- The two codes ----
 
-static uint64_t seed = 0x9E3779B97F4A7C15u;
+struct code {
+    const char *name;
+#define FIELD(function) __typeof__(ricecrock_##function) *function;
+    EACH_FUNCTION(FIELD)
+};
 
-static uint32_t any(uint32_t below)
+#define OF_LIBRARY(function) ricecrock_##function,
+#define OF_PLAIN(function) plain_##function,
+static const struct code library = {"library", EACH_FUNCTION(OF_LIBRARY)};
+static const struct code plain = {"C", EACH_FUNCTION(OF_PLAIN)};
+
+// ---- What is lent, and what is answered ----
+
+// All that a call may write, and its answer number by number: the bytes between the fields of a result may differ.
+struct lent {
+    int64_t answer[5 + RICECROCK_SEATS];
+    uint16_t losses[RICECROCK_LOSS_SETS];
+    uint8_t editors[RICECROCK_EDITS];
+    uint16_t times[RICECROCK_EDITS];
+    uint32_t cells[RICECROCK_EDITS];
+    int16_t changes[RICECROCK_EDITS];
+    uint8_t record[RICECROCK_RECORD];
+    int16_t numbers[RICECROCK_SEATS];
+    uint8_t marks[RICECROCK_EDITS];
+    struct ricecrock_table table;
+    uint8_t page[RICECROCK_PAGE];
+};
+
+static struct lent lent_library, lent_plain;
+
+static void keep_refusal(struct lent *lent, uint8_t refusal)
 {
-    seed ^= seed << 13;
-    seed ^= seed >> 7;
-    seed ^= seed << 17;
-    return (seed >> 33) % below;
+    lent->answer[0] = refusal;
 }
 
-// Three seats lose a send now and then, so that no question is refused and every view has something to look for.
-static void fill_losses(struct record *record)
+static void keep_header(struct lent *lent, struct ricecrock_header header)
 {
-    for (unsigned round = 0; round < record->rounds; round++)
-        for (unsigned sender = 0; sender < record->seats; sender++) {
-            uint16_t others = ((1u << record->seats) - 1) & ~(1u << sender);
-            uint16_t lost = sender < 3 && any(8) == 0 ? any(1u << record->seats) & others : 0;
-            record->losses[round * record->seats + sender] = lost;
-        }
+    lent->answer[0] = header.refusal;
+    lent->answer[1] = header.seats;
+    lent->answer[2] = header.bound;
+    lent->answer[3] = header.rounds;
+    lent->answer[4] = header.edits;
 }
 
-// A number that takes one, two or three bytes.
-static uint32_t any_size(void)
+static void keep_length(struct lent *lent, struct ricecrock_length length)
 {
-    switch (any(3)) {
-    case 0:
-        return any(128);
-    case 1:
-        return 128 + any(16384 - 128);
-    default:
-        return 16384 + any(65536 - 16384);
+    lent->answer[0] = length.refusal;
+    lent->answer[1] = length.length;
+}
+
+static void keep_seen(struct lent *lent, struct ricecrock_seen seen)
+{
+    lent->answer[0] = seen.refusal;
+    lent->answer[1] = seen.known;
+    for (unsigned q = 0; q < RICECROCK_SEATS; q++)
+        lent->answer[5 + q] = seen.view[q];
+}
+
+static void keep_agreed(struct lent *lent, struct ricecrock_agreed agreed)
+{
+    lent->answer[0] = agreed.refusal;
+    lent->answer[1] = agreed.steps;
+    lent->answer[2] = agreed.critical;
+    lent->answer[3] = agreed.kept;
+    lent->answer[4] = agreed.count;
+    for (unsigned q = 0; q < RICECROCK_SEATS; q++)
+        lent->answer[5 + q] = agreed.core[q];
+}
+
+static void keep_standing(struct lent *lent, struct ricecrock_standing standing)
+{
+    lent->answer[0] = standing.refusal;
+    lent->answer[1] = standing.loser;
+}
+
+// ---- The calls ----
+
+typedef void run_function(const struct code *code, const struct input *input, struct lent *lent);
+
+// Parts of an input and of what is lent, as the functions take them.
+#define BYTES input->bytes, input->bytes_count
+#define LISTS                                                                                                         \
+    input->seats, input->bound, input->rounds, input->losses, input->losses_count, input->editors,                    \
+        input->editors_count, input->times, input->times_count, input->cells, input->cells_count, input->changes,     \
+        input->changes_count
+#define TABLE &lent->table
+#define PLACE input->seat, input->time
+#define INTO_LISTS                                                                                                    \
+    lent->losses, input->room.losses, lent->editors, input->room.editors, lent->times, input->room.times,             \
+        lent->cells, input->room.cells, lent->changes, input->room.changes
+#define INTO_RECORD lent->record, input->room.record
+#define INTO_PAGE lent->page, input->room.page
+#define INTO_NUMBERS lent->numbers, input->room.numbers
+#define INTO_MARKS lent->marks, input->room.marks
+
+// How a function is called, and how its answer is kept.
+#define CALL(function, answer, ...)                                                                                   \
+    static void run_##function(const struct code *code, const struct input *input, struct lent *lent)                 \
+    {                                                                                                                 \
+        keep_##answer(lent, code->function(__VA_ARGS__));                                                             \
     }
-}
 
-static int16_t any_change(unsigned wide)
-{
-    uint32_t mapped = wide ? 16384 + any(65536 - 16384) : any_size();
-    int half = mapped / 2;
-    return mapped % 2 == 0 ? half : -1 - half;
-}
+#define QUESTIONS(carrier, ...)                                                                                       \
+    CALL(carrier##_seen, seen, __VA_ARGS__, PLACE)                                                                    \
+    CALL(carrier##_agreed, agreed, __VA_ARGS__, PLACE)                                                                \
+    CALL(carrier##_standing, standing, __VA_ARGS__, input->seat)                                                      \
+    CALL(carrier##_view, refusal, __VA_ARGS__, PLACE, INTO_NUMBERS)                                                   \
+    CALL(carrier##_core, refusal, __VA_ARGS__, PLACE, INTO_NUMBERS)                                                   \
+    CALL(carrier##_marks, refusal, __VA_ARGS__, PLACE, INTO_MARKS)
 
-// Edits spread over the whole record, in rising order. Wide ones take the most bytes that an edit can.
-static void fill_edits(struct record *record, unsigned wide)
-{
-    uint32_t places = (record->rounds + 1u) * record->seats;
-    uint32_t place = 0, cell = 0;
-    for (unsigned i = 0; i < record->edits; i++) {
-        uint32_t next = (uint64_t)i * places / record->edits;
-        uint32_t drawn = wide ? 16384 + any(40000) : any_size() / 2;
-        cell = i > 0 && next == place && drawn <= cell ? cell + 1 : drawn;
-        place = next;
-        record->editors[i] = place % record->seats;
-        record->times[i] = place / record->seats;
-        record->cells[i] = cell;
-        record->changes[i] = any_change(wide);
-    }
-}
-
-static struct ricecrock_length write_record(const struct code *code, const struct record *record, uint8_t *out,
-                                            size_t room)
-{
-    size_t edits = record->edits;
-    return code->write(record->seats, record->bound, record->rounds, record->losses,
-                       (size_t)record->seats * record->rounds, record->editors, edits, record->times, edits,
-                       record->cells, edits, record->changes, edits, out, room);
-}
-
-static void build(struct record *record, uint8_t seats, uint8_t bound, uint16_t rounds, uint16_t edits, unsigned wide)
-{
-    record->seats = seats;
-    record->bound = bound;
-    record->rounds = rounds;
-    record->edits = edits;
-    fill_losses(record);
-    fill_edits(record, wide);
-    struct ricecrock_length written = write_record(&plain, record, record->bytes, sizeof record->bytes);
-    if (written.refusal)
-        fail("a record that was built is refused");
-    record->length = written.length;
-}
+CALL(bytes_check, header, BYTES)
+CALL(bytes_read, header, BYTES, INTO_LISTS)
+CALL(bytes_page, length, BYTES, INTO_PAGE)
+QUESTIONS(bytes, BYTES)
+CALL(lists_judge, header, LISTS)
+CALL(lists_length, length, LISTS)
+CALL(lists_write, length, LISTS, INTO_RECORD)
+QUESTIONS(lists, LISTS)
+CALL(table_open, refusal, TABLE, input->new_seats, input->new_bound)
+CALL(table_add_round, refusal, TABLE, input->sets, input->sets_count)
+CALL(table_add_edit, refusal, TABLE, input->editor, input->cell, input->change)
+CALL(table_record, length, TABLE, INTO_RECORD)
+QUESTIONS(table, TABLE)
 
 // ---- The operations ----
 
-static uint8_t read_into(const struct code *code, struct lent *lent, const struct record *record)
-{
-    struct ricecrock_header header =
-        code->read(record->bytes, record->length, lent->losses, RICECROCK_LOSS_SETS, lent->editors, RICECROCK_EDITS,
-                   lent->times, RICECROCK_EDITS, lent->cells, RICECROCK_EDITS, lent->changes, RICECROCK_EDITS);
-    lent->header[0] = header.seats;
-    lent->header[1] = header.bound;
-    lent->header[2] = header.rounds;
-    lent->header[3] = header.edits;
-    return header.refusal;
-}
+// The inputs that are timed: the longest record; numbers of all sizes; the same with exactly the room that is needed; a
+// farm that lacks one round and one edit.
+static struct input longest, sizes, exact, farm;
 
-static uint8_t write_into(const struct code *code, struct lent *lent, const struct record *record, size_t room)
-{
-    struct ricecrock_length written = write_record(code, record, lent->out, room);
-    lent->length = written.length;
-    return written.refusal;
-}
-
-static uint8_t print_into(const struct code *code, struct lent *lent, const struct record *record)
-{
-    struct ricecrock_length page = code->page(record->bytes, record->length, lent->page, sizeof lent->page);
-    lent->page_length = page.length;
-    return page.refusal;
-}
-
-static void read_longest(const struct code *code, struct lent *lent)
-{
-    lent->answer = read_into(code, lent, &longest);
-}
-
-static void read_typical(const struct code *code, struct lent *lent)
-{
-    lent->answer = read_into(code, lent, &typical);
-}
-
-static void write_longest(const struct code *code, struct lent *lent)
-{
-    lent->answer = write_into(code, lent, &longest, sizeof lent->out);
-}
-
-static void write_typical(const struct code *code, struct lent *lent)
-{
-    lent->answer = write_into(code, lent, &typical, sizeof lent->out);
-}
-
-static void write_exact(const struct code *code, struct lent *lent)
-{
-    lent->answer = write_into(code, lent, &typical, typical.length);
-}
-
-static void core_last(const struct code *code, struct lent *lent)
-{
-    struct ricecrock_seat seat = {4};
-    struct ricecrock_time time = {ROUNDS};
-    lent->answer = code->core(longest.bytes, longest.length, seat, time, lent->core, SEATS);
-}
-
-static void page_longest(const struct code *code, struct lent *lent)
-{
-    lent->answer = print_into(code, lent, &longest);
-}
-
-static void open_table(const struct code *code, struct lent *lent)
-{
-    lent->answer = code->open(&lent->table, SEATS, BOUND);
-}
-
-// The table has one round less than it can hold, and gets its last one.
-static void add_last_round(const struct code *code, struct lent *lent)
-{
-    lent->table.seats = SEATS;
-    lent->table.bound = BOUND;
-    lent->table.rounds = ROUNDS - 1;
-    lent->table.edits = RICECROCK_EDITS;
-    lent->answer = code->add_round(&lent->table, &longest.losses[SEATS * (ROUNDS - 1)], SEATS);
-}
-
-// The table has one edit less than it can hold, and gets its last one.
-static void add_last_edit(const struct code *code, struct lent *lent)
-{
-    struct ricecrock_seat seat = {SEATS - 1};
-    lent->table.seats = SEATS;
-    lent->table.bound = BOUND;
-    lent->table.rounds = ROUNDS - 1;
-    lent->table.edits = RICECROCK_EDITS - 1;
-    lent->answer = code->add_edit(&lent->table, seat, UINT16_MAX, -1);
-}
-
-struct operation {
-    const char *name;
-    void (*run)(const struct code *code, struct lent *lent);
+// Sets of refusals, bit r for refusal r.
+enum {
+    OF_BYTES = 1 << 1 | 1 << 2 | 1 << 3 | 1 << 4 | 1 << 5 | 1 << 6,
+    OF_LISTS = 1 << 3 | 1 << 4 | 1 << 5 | 1 << 10,
+    OF_TABLE = 1 << 19,
+    OF_ROUND = 1 << 11 | 1 << 10 | 1 << 4,
+    OF_EDIT = 1 << 3 | 1 << 12 | 1 << 5,
+    RANGE = 1 << 3,
+    ROOM = 1 << 7,
+    PLACES = 1 << 8,
+    BOUND = 1 << 9,
 };
 
-static const struct operation operations[] = {
-    {"read, the longest record", read_longest},
-    {"read, numbers of all sizes", read_typical},
-    {"write, the longest record", write_longest},
-    {"write, numbers of all sizes", write_typical},
-    {"write, exactly that room", write_exact},
-    {"one core at the last time", core_last},
-    {"the whole page", page_longest},
-    {"live, the last round", add_last_round},
-    {"live, the last edit", add_last_edit},
-    {"live, opening", open_table},
+static const struct operation {
+    const char *function;
+    run_function *run;
+    uint32_t refusals;
+    const char *timed_on;
+    const struct input *input;
+} operations[] = {
+#define OPERATION(function, refusals, input) {#function, run_##function, refusals, #input, &input}
+    OPERATION(bytes_check, OF_BYTES, longest),
+    OPERATION(bytes_read, OF_BYTES | ROOM, longest),
+    OPERATION(bytes_page, ROOM, longest),
+    OPERATION(bytes_seen, OF_BYTES | PLACES, longest),
+    OPERATION(bytes_agreed, OF_BYTES | PLACES | BOUND, longest),
+    OPERATION(bytes_standing, OF_BYTES | PLACES, longest),
+    OPERATION(bytes_view, OF_BYTES | PLACES | ROOM, longest),
+    OPERATION(bytes_core, OF_BYTES | PLACES | ROOM | BOUND, longest),
+    OPERATION(bytes_marks, OF_BYTES | PLACES | ROOM | BOUND, longest),
+    OPERATION(lists_judge, OF_LISTS, longest),
+    OPERATION(lists_length, OF_LISTS, longest),
+    OPERATION(lists_write, OF_LISTS | ROOM, longest),
+    OPERATION(lists_seen, OF_LISTS | PLACES, longest),
+    OPERATION(lists_agreed, OF_LISTS | PLACES | BOUND, longest),
+    OPERATION(lists_standing, OF_LISTS | PLACES, longest),
+    OPERATION(lists_view, OF_LISTS | PLACES | ROOM, longest),
+    OPERATION(lists_core, OF_LISTS | PLACES | ROOM | BOUND, longest),
+    OPERATION(lists_marks, OF_LISTS | PLACES | ROOM | BOUND, longest),
+    OPERATION(table_open, RANGE, farm),
+    OPERATION(table_add_round, OF_TABLE | OF_ROUND, farm),
+    OPERATION(table_add_edit, OF_TABLE | OF_EDIT, farm),
+    OPERATION(table_record, OF_TABLE | ROOM, longest),
+    OPERATION(table_seen, OF_TABLE | PLACES, longest),
+    OPERATION(table_agreed, OF_TABLE | PLACES | BOUND, longest),
+    OPERATION(table_standing, OF_TABLE | PLACES, longest),
+    OPERATION(table_view, OF_TABLE | PLACES | ROOM, longest),
+    OPERATION(table_core, OF_TABLE | PLACES | ROOM | BOUND, longest),
+    OPERATION(table_marks, OF_TABLE | PLACES | ROOM | BOUND, longest),
+    // These once more, on other inputs.
+    OPERATION(bytes_read, OF_BYTES | ROOM, sizes),
+    OPERATION(lists_write, OF_LISTS | ROOM, sizes),
+    OPERATION(lists_write, OF_LISTS | ROOM, exact),
 };
 
-enum { OPERATIONS = sizeof operations / sizeof operations[0] };
+#define COUNT(function) +1
+enum { OPERATIONS = sizeof operations / sizeof operations[0], FUNCTIONS = 0 EACH_FUNCTION(COUNT) };
+
+// The table begins with every function.
+static void check_table(void)
+{
+#define NAME(function) #function,
+    static const char *const names[FUNCTIONS] = {EACH_FUNCTION(NAME)};
+    for (unsigned i = 0; i < FUNCTIONS; i++)
+        if (strcmp(operations[i].function, names[i]) != 0)
+            fail(names[i], "not where it belongs in the table of operations");
+}
+
+static void build_inputs(void)
+{
+    build_input(&longest, (struct shape){7, 6, 127, 512, 3, 1});
+    longest.seat.number = 4;
+    longest.time.number = 127;
+    longest.room.record = RICECROCK_RECORD;
+    longest.room.marks = RICECROCK_EDITS;
+    build_input(&sizes, (struct shape){7, 6, 127, 512, 3, 0});
+    sizes.room.record = RICECROCK_RECORD;
+    exact = sizes;
+    exact.room.record = sizes.bytes_count;
+    build_input(&farm, (struct shape){7, 6, 126, 511, 3, 1});
+    farm.editor.number = 6;
+    farm.cell = UINT16_MAX;
+}
 
 // ---- Equal results ----
 
-// Both start from the same bytes, a table that lacks its last round among them.
-static void prepare(struct lent *lent)
+// Nothing but a call to add or to open changes the table, and only its numbers and what was not used before: with the
+// numbers put back, the same call can be made again.
+static void run_again(const struct operation *operation, const struct code *code, struct lent *lent)
 {
-    memset(lent, PAINT, sizeof *lent);
-    struct ricecrock_table *table = &lent->table;
-    size_t used = SEATS * (ROUNDS - 1) * sizeof table->losses[0];
-    memcpy(table->losses, played.losses, used);
-    memcpy(table->editors, played.editors, sizeof table->editors);
-    memcpy(table->times, played.times, sizeof table->times);
-    memcpy(table->cells, played.cells, sizeof table->cells);
-    memcpy(table->changes, played.changes, sizeof table->changes);
+    memcpy(&lent->table, &operation->input->table, offsetof(struct ricecrock_table, losses));
+    operation->run(code, operation->input, lent);
 }
 
-static void compare(const char *what)
+static void prepare(const struct operation *operation)
 {
-    if (memcmp(&lent_library, &lent_plain, sizeof lent_library) != 0)
-        fail(what);
+    memset(&lent_library, PAINT, sizeof lent_library);
+    lent_library.table = operation->input->table;
+    lent_plain = lent_library;
+}
+
+static void compare(const char *function, size_t size)
+{
+    if (memcmp(&lent_library, &lent_plain, size) != 0)
+        fail(function, "not the same bytes");
 }
 
 static void compare_operations(void)
 {
-    for (unsigned i = 0; i < OPERATIONS; i++) {
-        prepare(&lent_library);
-        prepare(&lent_plain);
-        operations[i].run(&library, &lent_library);
-        operations[i].run(&plain, &lent_plain);
-        compare(operations[i].name);
-        if (lent_plain.answer != 0)
-            fail(operations[i].name);
+    for (const struct operation *operation = operations; operation < operations + OPERATIONS; operation++) {
+        prepare(operation);
+        run_again(operation, &library, &lent_library);
+        run_again(operation, &plain, &lent_plain);
+        compare(operation->function, sizeof lent_plain);
+        if (lent_plain.answer[0] != 0)
+            fail(operation->function, "refused where it is timed");
     }
 }
 
-// One record, often with one fault, to both codes.
-static void try_code(const struct code *code, struct lent *lent, const struct record *record, size_t room,
-                     struct ricecrock_seat seat, struct ricecrock_time time)
+// Every function gets an input that has no fault, or some. What was given is noted as a set of refusals, 0 for done.
+static void try_all(const struct input *input, uint32_t given[FUNCTIONS])
 {
-    uint8_t *answers = lent->answers;
-    answers[0] = read_into(code, lent, record);
-    answers[1] = write_into(code, lent, record, room);
-    answers[2] = code->core(record->bytes, record->length, seat, time, lent->core, any(8) == 0 ? 2 : SEATS);
-    answers[3] = print_into(code, lent, record);
-    if (any(8) == 0)
-        answers[4] = code->open(&lent->table, seat.number, time.number);
-    answers[5] = code->add_round(&lent->table, record->losses, any(8));
-    answers[6] = code->add_edit(&lent->table, seat, any(70000), any_change(1));
+    for (unsigned i = 0; i < FUNCTIONS; i++) {
+        lent_library.table = lent_plain.table = input->table;
+        operations[i].run(&library, input, &lent_library);
+        operations[i].run(&plain, input, &lent_plain);
+        compare(operations[i].function, offsetof(struct lent, page));
+        given[i] |= 1u << lent_plain.answer[0];
+    }
+    compare("bytes_page", sizeof lent_plain);
 }
 
+// At the end every function has been done, and has given each of its refusals and no other.
 static void compare_trials(void)
 {
-    static struct record record;
+    static struct input input;
+    uint32_t given[FUNCTIONS] = {0};
     for (unsigned trial = 0; trial < TRIALS; trial++) {
-        uint8_t seats = 2 + any(6);
-        build(&record, seats, any(seats), any(12), any(20), any(2));
-        size_t room = record.length - any(2) * any(2);
-        if (any(2) == 0)
-            record.bytes[any(record.length)] = any(256);
-        if (any(4) == 0)
-            record.length -= any(3);
-        if (any(2) == 0)
-            record.losses[any(RICECROCK_LOSS_SETS)] = any(256);
-        if (any(2) == 0)
-            record.cells[any(20)] = any(70000);
-        struct ricecrock_seat seat = {any(8)};
-        struct ricecrock_time time = {any(14)};
-        uint64_t same = seed;
-        try_code(&library, &lent_library, &record, room, seat, time);
-        seed = same;
-        try_code(&plain, &lent_plain, &record, room, seat, time);
-        compare("a trial with faults");
+        build_input(&input, any_shape());
+        for (unsigned faults = any(MOST_FAULTS + 1); faults > 0; faults--)
+            spoil_input(&input);
+        try_all(&input, given);
     }
+    for (unsigned i = 0; i < FUNCTIONS; i++)
+        if (given[i] != (operations[i].refusals | 1u))
+            fail(operations[i].function, "the refusals given are not those of its contract");
 }
 
 // ---- Times ----
@@ -379,7 +320,7 @@ static uint64_t batch(const struct operation *operation, const struct code *code
 {
     uint64_t start = nanoseconds();
     for (unsigned i = 0; i < calls; i++)
-        operation->run(code, lent);
+        run_again(operation, code, lent);
     return nanoseconds() - start;
 }
 
@@ -403,11 +344,9 @@ static unsigned samples_of(uint64_t batch_nanoseconds)
 }
 
 // The two take turns, so that whatever else the machine does falls on both.
-static void measure(const struct operation *operation)
+static void measure_times(const struct operation *operation)
 {
     static uint64_t of_library[MOST_SAMPLES], of_plain[MOST_SAMPLES];
-    prepare(&lent_library);
-    prepare(&lent_plain);
     unsigned calls = 1;
     uint64_t taken;
     while ((taken = batch(operation, &plain, &lent_plain, calls)) < BATCH_NANOSECONDS)
@@ -418,33 +357,34 @@ static void measure(const struct operation *operation)
         of_plain[i] = batch(operation, &plain, &lent_plain, calls);
     }
     double ours = median(of_library, samples, calls), theirs = median(of_plain, samples, calls);
-    printf("%-28s %12.0f %12.0f %8.2f\n", operation->name, ours, theirs, ours / theirs);
+    printf("%-16s %-8s %11.0f %11.0f %8.2f", operation->function, operation->timed_on, ours, theirs, ours / theirs);
 }
 
 // ---- Stack ----
 
 static ucontext_t caller, painted;
-static void (*painted_run)(const struct code *code, struct lent *lent);
+static const struct operation *painted_operation;
 static const struct code *painted_code;
 static struct lent *painted_lent;
 
 static void run_painted(void)
 {
-    painted_run(painted_code, painted_lent);
+    run_again(painted_operation, painted_code, painted_lent);
 }
 
-static void run_nothing(const struct code *code, struct lent *lent)
+static void run_nothing(const struct code *code, const struct input *input, struct lent *lent)
 {
     (void)code;
+    (void)input;
     (void)lent;
 }
 
 // How far down the operation reaches on a stack that nobody has touched.
-static size_t reach(void (*run)(const struct code *, struct lent *), const struct code *code, struct lent *lent)
+static size_t reach(const struct operation *operation, const struct code *code, struct lent *lent)
 {
     static uint8_t stack[STACK_BYTES] __attribute__((aligned(64)));
     memset(stack, PAINT, sizeof stack);
-    painted_run = run;
+    painted_operation = operation;
     painted_code = code;
     painted_lent = lent;
     getcontext(&painted);
@@ -461,29 +401,33 @@ static size_t reach(void (*run)(const struct code *, struct lent *), const struc
 
 static void measure_stack(const struct operation *operation)
 {
-    prepare(&lent_library);
-    prepare(&lent_plain);
-    size_t before = reach(run_nothing, &library, &lent_library);
-    size_t ours = reach(operation->run, &library, &lent_library) - before;
-    size_t theirs = reach(operation->run, &plain, &lent_plain) - before;
-    printf("%-28s %12zu %12zu\n", operation->name, ours, theirs);
+    struct operation nothing = *operation;
+    nothing.run = run_nothing;
+    size_t before = reach(&nothing, &library, &lent_library);
+    size_t ours = reach(operation, &library, &lent_library) - before;
+    size_t theirs = reach(operation, &plain, &lent_plain) - before;
+    printf(" %8zu %8zu\n", ours, theirs);
 }
 
 int main(int count, char **words)
 {
     printf("%s\n", count > 1 ? words[1] : "machine not named");
-    build(&longest, SEATS, BOUND, ROUNDS, RICECROCK_EDITS, 1);
-    build(&typical, SEATS, BOUND, ROUNDS, RICECROCK_EDITS, 0);
-    build(&played, SEATS, BOUND, ROUNDS - 1, RICECROCK_EDITS, 1);
-    printf("longest record %zu bytes, numbers of all sizes %zu bytes\n", longest.length, typical.length);
+    check_table();
+    build_inputs();
+    printf("longest: %zu bytes; sizes, numbers of all sizes: %zu bytes; exact: the same into exactly that room; "
+           "farm: lacks a round and an edit\n",
+           longest.bytes_count, sizes.bytes_count);
     compare_operations();
     compare_trials();
-    printf("equal results: %d operations, %d trials with and without faults\n\n", OPERATIONS, TRIALS);
-    printf("%-28s %12s %12s %8s\n", "operation, ns a call", library.name, plain.name, "ratio");
-    for (unsigned i = 0; i < OPERATIONS; i++)
-        measure(&operations[i]);
-    printf("\n%-28s %12s %12s\n", "stack, bytes", library.name, plain.name);
-    for (unsigned i = 0; i < OPERATIONS; i++)
-        measure_stack(&operations[i]);
+    printf("equal results: %d functions, each in %d trials with and without faults that gave each of its refusals\n\n",
+           FUNCTIONS, TRIALS);
+    printf("%-16s %-8s %11s %11s %8s %17s\n", "", "", "ns a call", "", "", "stack, bytes");
+    printf("%-16s %-8s %11s %11s %8s %8s %8s\n", "function", "input", library.name, plain.name, "ratio", library.name,
+           plain.name);
+    for (const struct operation *operation = operations; operation < operations + OPERATIONS; operation++) {
+        prepare(operation);
+        measure_times(operation);
+        measure_stack(operation);
+    }
     return 0;
 }

@@ -205,6 +205,20 @@ static enum refusal check(const uint8_t *bytes, size_t count, struct header *hea
     return reader.next < reader.end ? BYTES_LEFT : ACCEPTED;
 }
 
+static struct ricecrock_header told_header(enum refusal refusal, struct header header)
+{
+    if (refusal)
+        return (struct ricecrock_header){refusal, 0, 0, 0, 0};
+    return (struct ricecrock_header){ACCEPTED, header.seats, header.bound, header.rounds, header.edits};
+}
+
+struct ricecrock_header plain_bytes_check(const uint8_t *bytes, size_t bytes_count)
+{
+    struct header header = {0};
+    enum refusal refusal = check(bytes, bytes_count, &header);
+    return told_header(refusal, header);
+}
+
 // The second pass, over a record that the first one found good: no number is tested again.
 static void fill(const uint8_t *bytes, size_t count, uint16_t *losses, uint8_t *seats, uint16_t *times,
                  uint32_t *cells, int16_t *changes)
@@ -237,15 +251,14 @@ struct ricecrock_header plain_bytes_read(const uint8_t *bytes, size_t bytes_coun
                                          size_t times_count, uint32_t *cells, size_t cells_count, int16_t *changes,
                                          size_t changes_count)
 {
+    struct header header = {0};
     if (losses_count < RICECROCK_LOSS_SETS || editors_count < RICECROCK_EDITS || times_count < RICECROCK_EDITS ||
         cells_count < RICECROCK_EDITS || changes_count < RICECROCK_EDITS)
-        return (struct ricecrock_header){NO_ROOM, 0, 0, 0, 0};
-    struct header header;
+        return told_header(NO_ROOM, header);
     enum refusal refusal = check(bytes, bytes_count, &header);
-    if (refusal)
-        return (struct ricecrock_header){refusal, 0, 0, 0, 0};
-    fill(bytes, bytes_count, losses, editors, times, cells, changes);
-    return (struct ricecrock_header){ACCEPTED, header.seats, header.bound, header.rounds, header.edits};
+    if (!refusal)
+        fill(bytes, bytes_count, losses, editors, times, cells, changes);
+    return told_header(refusal, header);
 }
 
 // ---- Writing ----
@@ -357,20 +370,46 @@ static uint8_t *put_record(uint8_t *out, uint8_t seats, uint8_t bound, uint16_t 
     return out;
 }
 
-struct ricecrock_length plain_lists_write(uint32_t seats, uint32_t bound, uint32_t rounds, const uint16_t *losses,
-                                          size_t losses_count, const uint8_t *editors, size_t editors_count,
-                                          const uint16_t *times, size_t times_count, const uint32_t *cells,
-                                          size_t cells_count, const int16_t *changes, size_t changes_count,
-                                          uint8_t *out, size_t out_count)
+static struct ricecrock_length put_judged(uint8_t seats, uint8_t bound, uint16_t rounds, const struct lists *lists,
+                                          uint8_t *out, size_t room)
 {
-    struct lists lists = {losses, losses_count, editors, editors_count, times,
-                          times_count, cells, cells_count, changes, changes_count};
+    if (!has_room(room, seats, bound, rounds, lists))
+        return (struct ricecrock_length){NO_ROOM, 0};
+    return (struct ricecrock_length){ACCEPTED, put_record(out, seats, bound, rounds, lists) - out};
+}
+
+// Lists as a host gives them, and the same gathered.
+#define LIST_PARAMETERS                                                                                               \
+    uint32_t seats, uint32_t bound, uint32_t rounds, const uint16_t *losses, size_t losses_count,                     \
+        const uint8_t *editors, size_t editors_count, const uint16_t *times, size_t times_count,                      \
+        const uint32_t *cells, size_t cells_count, const int16_t *changes, size_t changes_count
+#define GATHERED                                                                                                      \
+    ((struct lists){losses, losses_count, editors, editors_count, times, times_count, cells, cells_count, changes,    \
+                    changes_count})
+
+struct ricecrock_header plain_lists_judge(LIST_PARAMETERS)
+{
+    struct lists lists = GATHERED;
+    enum refusal refusal = judge(seats, bound, rounds, &lists);
+    return told_header(refusal, (struct header){seats, bound, rounds, editors_count});
+}
+
+struct ricecrock_length plain_lists_length(LIST_PARAMETERS)
+{
+    struct lists lists = GATHERED;
     enum refusal refusal = judge(seats, bound, rounds, &lists);
     if (refusal)
         return (struct ricecrock_length){refusal, 0};
-    if (!has_room(out_count, seats, bound, rounds, &lists))
-        return (struct ricecrock_length){NO_ROOM, 0};
-    return (struct ricecrock_length){ACCEPTED, put_record(out, seats, bound, rounds, &lists) - out};
+    return (struct ricecrock_length){ACCEPTED, record_length(seats, bound, rounds, &lists)};
+}
+
+struct ricecrock_length plain_lists_write(LIST_PARAMETERS, uint8_t *out, size_t out_count)
+{
+    struct lists lists = GATHERED;
+    enum refusal refusal = judge(seats, bound, rounds, &lists);
+    if (refusal)
+        return (struct ricecrock_length){refusal, 0};
+    return put_judged(seats, bound, rounds, &lists, out, out_count);
 }
 
 // ---- Views and the core ----
@@ -461,6 +500,7 @@ static unsigned size_of(unsigned set, unsigned seats)
 struct settled {
     unsigned steps;
     int critical;
+    unsigned kept;
     struct view core;
 };
 
@@ -489,52 +529,221 @@ static enum refusal settle(const struct farm *farm, unsigned seat, unsigned time
         struct view core = view_outside(farm, known, critical);
         unsigned next = known_in(farm, &core);
         if (next == known) {
-            *settled = (struct settled){steps, critical, core};
+            *settled = (struct settled){steps, critical, next, core};
             return ACCEPTED;
         }
         known = next;
     }
 }
 
-uint8_t plain_bytes_core(const uint8_t *bytes, size_t bytes_count, struct ricecrock_seat seat,
-                         struct ricecrock_time time, int16_t *out, size_t out_count)
+// ---- Questions ----
+
+// The edits of a record, by their places.
+struct places {
+    const uint8_t *editors;
+    const uint16_t *times;
+    unsigned edits;
+};
+
+// What a question is asked of: an accepted record, or the refusal of what was given for one.
+struct asked {
+    enum refusal refusal;
+    struct farm farm;
+    unsigned rounds;
+    struct places places;
+};
+
+static bool lost_any(const struct farm *farm, unsigned rounds, unsigned sender)
 {
+    for (unsigned begun = 0; begun < rounds; begun++)
+        if (farm->losses[begun * farm->seats + sender])
+            return true;
+    return false;
+}
+
+static bool in_core(const struct view *core, const struct places *places, unsigned edit)
+{
+    return places->times[edit] < core->of[places->editors[edit]];
+}
+
+static unsigned count_edits(const struct view *core, const struct places *places)
+{
+    unsigned count = 0;
+    for (unsigned i = 0; i < places->edits; i++)
+        count += in_core(core, places, i);
+    return count;
+}
+
+static enum refusal find_place(const struct asked *asked, struct ricecrock_seat seat, struct ricecrock_time time)
+{
+    if (asked->refusal)
+        return asked->refusal;
+    return seat.number >= asked->farm.seats || time.number > asked->rounds ? NO_SUCH_PLACE : ACCEPTED;
+}
+
+static void put_times(const struct view *view, unsigned seats, int16_t *out)
+{
+    for (unsigned q = 0; q < seats; q++)
+        out[q] = view->of[q] - 1;
+}
+
+static struct ricecrock_seen tell_seen(const struct asked *asked, struct ricecrock_seat seat,
+                                       struct ricecrock_time time)
+{
+    struct ricecrock_seen seen = {find_place(asked, seat, time), 0, {-1, -1, -1, -1, -1, -1, -1}};
+    if (seen.refusal)
+        return seen;
+    struct views views = views_at(&asked->farm, time.number);
+    seen.known = known_in(&asked->farm, &views.of[seat.number]);
+    put_times(&views.of[seat.number], asked->farm.seats, seen.view);
+    return seen;
+}
+
+static struct ricecrock_agreed tell_agreed(const struct asked *asked, struct ricecrock_seat seat,
+                                           struct ricecrock_time time)
+{
+    struct ricecrock_agreed agreed = {find_place(asked, seat, time), 0, 0, 0, 0, {-1, -1, -1, -1, -1, -1, -1}};
+    struct settled settled;
+    if (agreed.refusal || (agreed.refusal = settle(&asked->farm, seat.number, time.number, &settled)))
+        return agreed;
+    agreed.steps = settled.steps;
+    agreed.critical = settled.critical;
+    agreed.kept = settled.kept;
+    agreed.count = count_edits(&settled.core, &asked->places);
+    put_times(&settled.core, asked->farm.seats, agreed.core);
+    return agreed;
+}
+
+static struct ricecrock_standing tell_standing(const struct asked *asked, struct ricecrock_seat seat)
+{
+    enum refusal refusal = find_place(asked, seat, (struct ricecrock_time){0});
+    if (refusal)
+        return (struct ricecrock_standing){refusal, 0};
+    return (struct ricecrock_standing){ACCEPTED, lost_any(&asked->farm, asked->rounds, seat.number)};
+}
+
+static uint8_t tell_view(const struct asked *asked, struct ricecrock_seat seat, struct ricecrock_time time,
+                         int16_t *out, size_t room)
+{
+    enum refusal refusal = find_place(asked, seat, time);
+    if (refusal)
+        return refusal;
+    if (room < asked->farm.seats)
+        return NO_ROOM;
+    struct views views = views_at(&asked->farm, time.number);
+    put_times(&views.of[seat.number], asked->farm.seats, out);
+    return ACCEPTED;
+}
+
+static uint8_t tell_core(const struct asked *asked, struct ricecrock_seat seat, struct ricecrock_time time,
+                         int16_t *out, size_t room)
+{
+    struct settled settled;
+    enum refusal refusal = find_place(asked, seat, time);
+    if (refusal)
+        return refusal;
+    if (room < asked->farm.seats)
+        return NO_ROOM;
+    if ((refusal = settle(&asked->farm, seat.number, time.number, &settled)))
+        return refusal;
+    put_times(&settled.core, asked->farm.seats, out);
+    return ACCEPTED;
+}
+
+static uint8_t tell_marks(const struct asked *asked, struct ricecrock_seat seat, struct ricecrock_time time,
+                          uint8_t *out, size_t room)
+{
+    struct settled settled;
+    enum refusal refusal = find_place(asked, seat, time);
+    if (refusal)
+        return refusal;
+    if (room < asked->places.edits)
+        return NO_ROOM;
+    if ((refusal = settle(&asked->farm, seat.number, time.number, &settled)))
+        return refusal;
+    for (unsigned i = 0; i < asked->places.edits; i++)
+        out[i] = in_core(&settled.core, &asked->places, i);
+    return ACCEPTED;
+}
+
+// The six questions of a carrier: its parameters, and the statements that set `asked` from them.
+#define QUESTIONS(carrier, PARAMETERS, SET_ASKED)                                                                     \
+    struct ricecrock_seen plain_##carrier##_seen(PARAMETERS, struct ricecrock_seat seat, struct ricecrock_time time)  \
+    {                                                                                                                 \
+        SET_ASKED;                                                                                                    \
+        return tell_seen(&asked, seat, time);                                                                         \
+    }                                                                                                                 \
+    struct ricecrock_agreed plain_##carrier##_agreed(PARAMETERS, struct ricecrock_seat seat,                          \
+                                                     struct ricecrock_time time)                                      \
+    {                                                                                                                 \
+        SET_ASKED;                                                                                                    \
+        return tell_agreed(&asked, seat, time);                                                                       \
+    }                                                                                                                 \
+    struct ricecrock_standing plain_##carrier##_standing(PARAMETERS, struct ricecrock_seat seat)                      \
+    {                                                                                                                 \
+        SET_ASKED;                                                                                                    \
+        return tell_standing(&asked, seat);                                                                           \
+    }                                                                                                                 \
+    uint8_t plain_##carrier##_view(PARAMETERS, struct ricecrock_seat seat, struct ricecrock_time time, int16_t *out,  \
+                                   size_t out_count)                                                                  \
+    {                                                                                                                 \
+        SET_ASKED;                                                                                                    \
+        return tell_view(&asked, seat, time, out, out_count);                                                         \
+    }                                                                                                                 \
+    uint8_t plain_##carrier##_core(PARAMETERS, struct ricecrock_seat seat, struct ricecrock_time time, int16_t *out,  \
+                                   size_t out_count)                                                                  \
+    {                                                                                                                 \
+        SET_ASKED;                                                                                                    \
+        return tell_core(&asked, seat, time, out, out_count);                                                         \
+    }                                                                                                                 \
+    uint8_t plain_##carrier##_marks(PARAMETERS, struct ricecrock_seat seat, struct ricecrock_time time, uint8_t *out, \
+                                    size_t out_count)                                                                 \
+    {                                                                                                                 \
+        SET_ASKED;                                                                                                    \
+        return tell_marks(&asked, seat, time, out, out_count);                                                        \
+    }
+
+// Room for the lists of any record.
+struct room {
     uint16_t losses[RICECROCK_LOSS_SETS];
     uint8_t editors[RICECROCK_EDITS];
     uint16_t times[RICECROCK_EDITS];
     uint32_t cells[RICECROCK_EDITS];
     int16_t changes[RICECROCK_EDITS];
-    struct header header;
-    enum refusal refusal = check(bytes, bytes_count, &header);
-    if (refusal)
-        return refusal;
-    fill(bytes, bytes_count, losses, editors, times, cells, changes);
-    struct farm farm = {header.seats, header.bound, losses};
-    if (seat.number >= farm.seats || time.number > header.rounds)
-        return NO_SUCH_PLACE;
-    if (out_count < farm.seats)
-        return NO_ROOM;
-    struct settled settled;
-    if ((refusal = settle(&farm, seat.number, time.number, &settled)))
-        return refusal;
-    for (unsigned q = 0; q < farm.seats; q++)
-        out[q] = settled.core.of[q] - 1;
-    return ACCEPTED;
+};
+
+static struct asked ask_bytes(const uint8_t *bytes, size_t count, struct room *room)
+{
+    struct header header = {0};
+    enum refusal refusal = check(bytes, count, &header);
+    if (!refusal)
+        fill(bytes, count, room->losses, room->editors, room->times, room->cells, room->changes);
+    return (struct asked){refusal,
+                          {header.seats, header.bound, room->losses},
+                          header.rounds,
+                          {room->editors, room->times, header.edits}};
 }
+
+static struct asked ask_lists(uint32_t seats, uint32_t bound, uint32_t rounds, const struct lists *lists)
+{
+    return (struct asked){judge(seats, bound, rounds, lists),
+                          {seats, bound, lists->losses},
+                          rounds,
+                          {lists->editors, lists->times, lists->editors_count}};
+}
+
+#define BYTE_PARAMETERS const uint8_t *bytes, size_t bytes_count
+#define SET_ASKED_FROM_BYTES                                                                                          \
+    struct room lists;                                                                                                \
+    struct asked asked = ask_bytes(bytes, bytes_count, &lists)
+#define SET_ASKED_FROM_LISTS                                                                                          \
+    struct lists lists = GATHERED;                                                                                    \
+    struct asked asked = ask_lists(seats, bound, rounds, &lists)
+
+QUESTIONS(bytes, BYTE_PARAMETERS, SET_ASKED_FROM_BYTES)
+QUESTIONS(lists, LIST_PARAMETERS, SET_ASKED_FROM_LISTS)
 
 // ---- The page ----
-
-static unsigned losers_by(const struct farm *farm, unsigned rounds)
-{
-    unsigned losers = 0;
-    for (unsigned z = 0; z < farm->seats; z++)
-        for (unsigned begun = 0; begun < rounds; begun++)
-            if (farm->losses[begun * farm->seats + z]) {
-                losers |= 1u << z;
-                break;
-            }
-    return losers;
-}
 
 static uint8_t *put_word(uint8_t *out, const char *word)
 {
@@ -560,30 +769,14 @@ static uint8_t *put_signed(uint8_t *out, int value)
     return put_decimal(out, value);
 }
 
-static uint8_t *put_header_line(uint8_t *out, struct header header)
+static uint8_t *put_header_line(uint8_t *out, const struct asked *asked)
 {
-    out = put_decimal(put_word(out, "seats "), header.seats);
-    out = put_decimal(put_word(out, " bound "), header.bound);
-    out = put_decimal(put_word(out, " rounds "), header.rounds);
-    out = put_decimal(put_word(out, " edits "), header.edits);
+    out = put_decimal(put_word(out, "seats "), asked->farm.seats);
+    out = put_decimal(put_word(out, " bound "), asked->farm.bound);
+    out = put_decimal(put_word(out, " rounds "), asked->rounds);
+    out = put_decimal(put_word(out, " edits "), asked->places.edits);
     return put_word(out, "\n");
 }
-
-static unsigned count_edits(const struct view *core, const uint8_t *editors, const uint16_t *times, unsigned edits)
-{
-    unsigned count = 0;
-    for (unsigned i = 0; i < edits; i++)
-        if (times[i] < core->of[editors[i]])
-            count++;
-    return count;
-}
-
-// The edits of a record, by their places.
-struct places {
-    const uint8_t *editors;
-    const uint16_t *times;
-    unsigned edits;
-};
 
 // What the page says of a place.
 struct place {
@@ -592,12 +785,11 @@ struct place {
     unsigned count;
 };
 
-static void ask_place(const struct farm *farm, const struct places *places, unsigned seat, unsigned time,
-                      struct place *place)
+static void ask_place(const struct asked *asked, unsigned seat, unsigned time, struct place *place)
 {
-    place->refusal = settle(farm, seat, time, &place->settled);
+    place->refusal = settle(&asked->farm, seat, time, &place->settled);
     if (!place->refusal)
-        place->count = count_edits(&place->settled.core, places->editors, places->times, places->edits);
+        place->count = count_edits(&place->settled.core, &asked->places);
 }
 
 static uint8_t *put_place_line(uint8_t *out, const struct place *place, bool loser, unsigned seats, unsigned time,
@@ -616,16 +808,16 @@ static uint8_t *put_place_line(uint8_t *out, const struct place *place, bool los
 }
 
 // The lines of a time. A known set is settled once for the seats in a row that share it.
-static uint8_t *put_time_lines(uint8_t *out, const struct farm *farm, const struct places *places, unsigned losers,
-                               unsigned time)
+static uint8_t *put_time_lines(uint8_t *out, const struct asked *asked, unsigned losers, unsigned time)
 {
+    const struct farm *farm = &asked->farm;
     struct views views = views_at(farm, time);
     struct place place;
     unsigned before = 0;
     for (unsigned seat = 0; seat < farm->seats; seat++) {
         unsigned known = known_in(farm, &views.of[seat]);
         if (seat == 0 || known != before)
-            ask_place(farm, places, seat, time, &place);
+            ask_place(asked, seat, time, &place);
         out = put_place_line(out, &place, losers >> seat & 1, farm->seats, time, seat);
         before = known;
     }
@@ -636,36 +828,37 @@ struct ricecrock_length plain_bytes_page(const uint8_t *bytes, size_t bytes_coun
 {
     if (out_count < RICECROCK_PAGE)
         return (struct ricecrock_length){NO_ROOM, 0};
-    uint16_t losses[RICECROCK_LOSS_SETS];
-    uint8_t editors[RICECROCK_EDITS];
-    uint16_t times[RICECROCK_EDITS];
-    uint32_t cells[RICECROCK_EDITS];
-    int16_t changes[RICECROCK_EDITS];
-    struct header header;
-    enum refusal refusal = check(bytes, bytes_count, &header);
-    if (refusal) {
-        uint8_t *end = put_word(put_decimal(put_word(out, "refused "), refusal), "\n");
+    struct room lists;
+    struct asked asked = ask_bytes(bytes, bytes_count, &lists);
+    if (asked.refusal) {
+        uint8_t *end = put_word(put_decimal(put_word(out, "refused "), asked.refusal), "\n");
         return (struct ricecrock_length){ACCEPTED, end - out};
     }
-    fill(bytes, bytes_count, losses, editors, times, cells, changes);
-    struct farm farm = {header.seats, header.bound, losses};
-    unsigned losers = losers_by(&farm, header.rounds);
-    uint8_t *end = put_header_line(out, header);
-    struct places places = {editors, times, header.edits};
-    for (unsigned time = 0; time <= header.rounds; time++)
-        end = put_time_lines(end, &farm, &places, losers, time);
+    unsigned losers = 0;
+    for (unsigned z = 0; z < asked.farm.seats; z++)
+        losers |= (unsigned)lost_any(&asked.farm, asked.rounds, z) << z;
+    uint8_t *end = put_header_line(out, &asked);
+    for (unsigned time = 0; time <= asked.rounds; time++)
+        end = put_time_lines(end, &asked, losers, time);
     return (struct ricecrock_length){ACCEPTED, end - out};
 }
 
 // ---- The live table ----
 
+// The used part of a table as lists. Only after its numbers are tested: they may say more than the table holds.
+static struct lists used_lists(const struct ricecrock_table *table)
+{
+    size_t edits = table->edits;
+    size_t sets = (size_t)table->seats * table->rounds;
+    return (struct lists){table->losses, sets,         table->editors, edits,          table->times,
+                          edits,         table->cells, edits,          table->changes, edits};
+}
+
 static bool good_table(const struct ricecrock_table *table)
 {
     if (table->seats > MOST_SEATS || table->rounds > MOST_ROUNDS || table->edits > MOST_EDITS)
         return false;
-    size_t edits = table->edits;
-    struct lists lists = {table->losses, (size_t)table->seats * table->rounds, table->editors, edits, table->times,
-                          edits, table->cells, edits, table->changes, edits};
+    struct lists lists = used_lists(table);
     return judge(table->seats, table->bound, table->rounds, &lists) == ACCEPTED;
 }
 
@@ -718,3 +911,23 @@ uint8_t plain_table_add_edit(struct ricecrock_table *table, struct ricecrock_sea
     table->edits++;
     return ACCEPTED;
 }
+
+struct ricecrock_length plain_table_record(const struct ricecrock_table *table, uint8_t *out, size_t out_count)
+{
+    if (!good_table(table))
+        return (struct ricecrock_length){BAD_TABLE, 0};
+    struct lists lists = used_lists(table);
+    return put_judged(table->seats, table->bound, table->rounds, &lists, out, out_count);
+}
+
+static struct asked ask_table(const struct ricecrock_table *table)
+{
+    return (struct asked){good_table(table) ? ACCEPTED : BAD_TABLE,
+                          {table->seats, table->bound, table->losses},
+                          table->rounds,
+                          {table->editors, table->times, table->edits}};
+}
+
+#define TABLE_PARAMETERS const struct ricecrock_table *table
+
+QUESTIONS(table, TABLE_PARAMETERS, struct asked asked = ask_table(table))

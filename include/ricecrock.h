@@ -42,6 +42,43 @@ enum {
     RICECROCK_BAD_TABLE = 19,
 };
 
+// A refusal in plain words, for a log or for whoever helps a player.
+static inline const char *ricecrock_text(uint8_t refusal)
+{
+    switch (refusal) {
+    case RICECROCK_DONE:
+        return "done, nothing was refused";
+    case RICECROCK_ENDS_EARLY:
+        return "the record breaks off before it is complete";
+    case RICECROCK_BAD_FORM:
+        return "a number in the record is not written in the one form that is allowed";
+    case RICECROCK_OUT_OF_RANGE:
+        return "a number is too small or too large for what it stands for";
+    case RICECROCK_BAD_LOSS_SET:
+        return "a send is said to be lost to its own sender, or to a seat that the farm does not have";
+    case RICECROCK_BAD_ORDER:
+        return "an edit does not come after the one before it: they go by time, then seat, then cell";
+    case RICECROCK_BYTES_LEFT:
+        return "there are more bytes after the end of the record";
+    case RICECROCK_NO_ROOM:
+        return "a buffer that was lent is too short";
+    case RICECROCK_NO_SUCH_PLACE:
+        return "the farm has no such seat, or has not come to such a time";
+    case RICECROCK_OVER_BOUND:
+        return "this seat sees more seats with lost sends than the farm allows for, so what is agreed cannot be told";
+    case RICECROCK_BAD_LENGTHS:
+        return "the lists are not as long as the seats, rounds and edits need";
+    case RICECROCK_ROUNDS_FULL:
+        return "the farm has had 127 rounds, and a record holds no more";
+    case RICECROCK_EDITS_FULL:
+        return "the farm has had 512 edits, and a record holds no more";
+    case RICECROCK_BAD_TABLE:
+        return "the live table was never opened, or something other than the calls has changed it";
+    default:
+        return "unknown, no refusal has this number";
+    }
+}
+
 // A seat and a time, each a type of its own, so that neither can be given for the other. A number that no seat or no
 // time has is refused, not cut.
 struct ricecrock_seat {
