@@ -20,7 +20,7 @@ use prog.Model.{fieldsAt}
 use prog.Wp.{Heap}
 use ghost.Atoms.{Atoms, sem}
 use contract.Lifetimes.{Lfts, Within, lftAt}
-use types.Kit.{Given, ‵, raw, some, given, later, _⊛_, _$_, _∵_, !, qed, move, keep as hold, drop, use1, use2, use3, split, join, pick, learn, rewrite, fsplit, fjoin, frame, await, updating, now as at-once, show, check, done}
+use types.Kit.{Given, Item, ‵, raw, some, given, later, _⊛_, _$_, _∵_, !, qed, by, move, keep as hold, drop, use1, use2, use3, split, join, pick, learn, rewrite, fsplit, fjoin, frame, await, updating, now as at-once, show, check, done}
 use types.SemTy.{Body}
 use denote.RattleType.{RattleType, Denots, Valss, flat, owns}
 use denote.Exit.{yes}
@@ -202,31 +202,50 @@ module _ {M : Type 1} (𝓤 : URA M) (H : Heap 𝓤) (A : Atoms 𝓤) where
     abbrev pub Lent : Valss (typesAt rest κs) → (ps : Parts n) → Whole ps → Names ps → SProp 𝓤
     Lent vss ps x γs = sep 𝓤 (sem 𝓤 H A (Got vss ps x γs)) (owed ps κs b o x γs)
 
+    -- a field's cell is what can be lent of it; what comes back is its cell, with the value's machine value in it
+    module _ (f : Part) (x : f .F .Denot) where
+      abbrev cell : Fml
+      cell = fat fullShare (lone (f .F .mir)) b (o + f .d) (f .spell x)
+
+      abbrev part : Fml
+      part = partAt (f .F) fullShare x b (o + f .d)
+
+      of-cell : Is (f .F) x (f .spell x ∷ []) → ent 𝓤 (sem 𝓤 H A cell) (sem 𝓤 H A part)
+      of-cell is = qed W (‵ cell ∷ []) ∵ owned ! (f .F) (Is (f .F)) (f .makes M 𝓤 H A W) x _ is $ move ! (1 ∷ 0 ∷ []) $ by ! (part-in 𝓤 H A W (f .F) (f .one) fullShare x b (o + f .d) (f .spell x))
+
+      to-cell : ent 𝓤 (sem 𝓤 H A part) (guard 𝓤 (Is (f .F) x (f .spell x ∷ [])) (sem 𝓤 H A cell))
+      to-cell = qed W (‵ part ∷ []) ∵ use1 W (some (λ (v : Val). ‵ (fat fullShare (lone (f .F .mir)) b (o + f .d) v) ⊛ ‵ (f .F .own x (v ∷ [])))) (part-out 𝓤 H A W (f .F) (f .one) fullShare x b (o + f .d)) $ pick ! (λ v. split ! $ move ! (1 ∷ []) $
+          peeks ! (f .F) (Is (f .F)) (shows 𝓤 H A (f .F)) x (v ∷ []) (λ p. drop ! $ rewrite ! 0 (λ (u : Val). ‵ (fat fullShare (lone (f .F .mir)) b (o + f .d) u)) (ap only (f .tells x (v ∷ []) p)) refl $
+          check ! (subst (λ (us : List Val). Is (f .F) x us) (f .tells x (v ∷ []) p) p) $ done !))
+
+    -- what the parts after the first are lent as
+    abbrev Others : Valss (typesAt rest κs) → (ps : Parts n) → Whole ps → Item 𝓤
+    Others vss ps x = later (some (λ (γs : Names ps). ‵ (Got vss ps x γs) ⊛ raw (owed ps κs b o x γs)))
+
     pub lends-parts : (vss : Valss (typesAt rest κs)) (ps : Parts n) (x : Whole ps) → AllIs ps x → ent 𝓤 (sep 𝓤 (cells ps b o x) (sem 𝓤 H A (owns (typesAt rest κs) a vss))) (H .⇛ (ex 𝓤 (Lent vss ps x)))
     lends-parts vss [] x is = qed W (raw (emp 𝓤) ∷ ‵ (owns (typesAt rest κs) a vss) ∷ []) ∵ updating ! $ at-once ! $ show ! (Lent vss [] x) tt $ move ! (1 ∷ 0 ∷ []) $ done !
     lends-parts vss ((change j ok, f) ∷ ps) x is =
-        qed W ((‵ (fat fullShare (lone (f .F .mir)) b (o + f .d) (f .spell (x .0))) ⊛ raw (cells ps b o (x .1))) ∷ ‵ (owns (typesAt rest κs) a vss) ∷ []) ∵ updating ! $ split ! $
-        owned ! (f .F) (Is (f .F)) (f .makes M 𝓤 H A W) (x .0) _ (is .0) $ move ! (1 ∷ 0 ∷ []) $ use2 W (‵ (partAt (f .F) fullShare (x .0) b (o + f .d))) (part-in 𝓤 H A W (f .F) (f .one) fullShare (x .0) b (o + f .d) (f .spell (x .0))) $
+        qed W ((‵ (cell f (x .0)) ⊛ raw (cells ps b o (x .1))) ∷ ‵ (owns (typesAt rest κs) a vss) ∷ []) ∵ updating ! $ split ! $ use1 W (‵ (part f (x .0))) (of-cell f (x .0) (is .0)) $
         use1 W (later (some (λ (γ : GName). ‵ (MutRef (named j) (lftAt n j ok κs) (f .F) .own (record { ptr = (b, o + f .d); name = γ; now = x .0 }) (vptr b (o + f .d) ∷ [])) ⊛ ‵ (flent (lftAt n j ok κs) (Body (mem (f .F)) b (o + f .d) γ))))) (lends-ref 𝓤 H A W (f .F) (named j) (lftAt n j ok κs) (x .0) b (o + f .d)) $ await ! tt $ pick ! (λ γ. split ! $
         -- [the reference; the lender's part; the other cells; the other parameters]
-        move ! (2 ∷ 3 ∷ []) $ use2 W (later (some (λ (γs : Names ps). ‵ (Got vss ps (x .1) γs) ⊛ raw (owed ps κs b o (x .1) γs)))) (lends-parts vss ps (x .1) (is .1)) $ await ! tt $ pick ! (λ γs. split ! $ at-once ! $
+        move ! (2 ∷ 3 ∷ []) $ use2 W (Others vss ps (x .1)) (lends-parts vss ps (x .1) (is .1)) $ await ! tt $ pick ! (λ γs. split ! $ at-once ! $
         show ! (Lent vss ((change j ok, f) ∷ ps) x) (γ, γs) $ move ! (2 ∷ 0 ∷ []) $ fjoin ! $ frame ! $ move ! (1 ∷ 0 ∷ []) $ done !))
     lends-parts vss ((look j ok, f) ∷ ps) x is =
-        qed W ((‵ (fat fullShare (lone (f .F .mir)) b (o + f .d) (f .spell (x .0))) ⊛ raw (cells ps b o (x .1))) ∷ ‵ (owns (typesAt rest κs) a vss) ∷ []) ∵ updating ! $ split ! $
-        owned ! (f .F) (Is (f .F)) (f .makes M 𝓤 H A W) (x .0) _ (is .0) $ move ! (1 ∷ 0 ∷ []) $ use2 W (‵ (partAt (f .F) fullShare (x .0) b (o + f .d))) (part-in 𝓤 H A W (f .F) (f .one) fullShare (x .0) b (o + f .d) (f .spell (x .0))) $
-        use1 W (later (some (λ (γ : GName). ‵ (ShrRef (named j) (lftAt n j ok κs) (f .F) .own (record { ptr = (b, o + f .d); name = γ; now = x .0 }) (vptr b (o + f .d) ∷ [])) ⊛ ‵ (flent (lftAt n j ok κs) (partAt (f .F) fullShare (x .0) b (o + f .d)))))) (lends-shr 𝓤 H A W (f .F) (named j) (lftAt n j ok κs) fullShare (x .0) b (o + f .d)) $ await ! tt $ pick ! (λ γ. split ! $
-        move ! (2 ∷ 3 ∷ []) $ use2 W (later (some (λ (γs : Names ps). ‵ (Got vss ps (x .1) γs) ⊛ raw (owed ps κs b o (x .1) γs)))) (lends-parts vss ps (x .1) (is .1)) $ await ! tt $ pick ! (λ γs. split ! $ at-once ! $
+        qed W ((‵ (cell f (x .0)) ⊛ raw (cells ps b o (x .1))) ∷ ‵ (owns (typesAt rest κs) a vss) ∷ []) ∵ updating ! $ split ! $ use1 W (‵ (part f (x .0))) (of-cell f (x .0) (is .0)) $
+        use1 W (later (some (λ (γ : GName). ‵ (ShrRef (named j) (lftAt n j ok κs) (f .F) .own (record { ptr = (b, o + f .d); name = γ; now = x .0 }) (vptr b (o + f .d) ∷ [])) ⊛ ‵ (flent (lftAt n j ok κs) (part f (x .0)))))) (lends-shr 𝓤 H A W (f .F) (named j) (lftAt n j ok κs) fullShare (x .0) b (o + f .d)) $ await ! tt $ pick ! (λ γ. split ! $
+        move ! (2 ∷ 3 ∷ []) $ use2 W (Others vss ps (x .1)) (lends-parts vss ps (x .1) (is .1)) $ await ! tt $ pick ! (λ γs. split ! $ at-once ! $
         show ! (Lent vss ((look j ok, f) ∷ ps) x) (γ, γs) $ move ! (2 ∷ 0 ∷ []) $ fjoin ! $ frame ! $ move ! (1 ∷ 0 ∷ []) $ done !))
     lends-parts vss ((take, f) ∷ ps) x is =
-        qed W ((‵ (fat fullShare (lone (f .F .mir)) b (o + f .d) (f .spell (x .0))) ⊛ raw (cells ps b o (x .1))) ∷ ‵ (owns (typesAt rest κs) a vss) ∷ []) ∵ updating ! $ split ! $
-        move ! (1 ∷ 2 ∷ []) $ use2 W (later (some (λ (γs : Names ps). ‵ (Got vss ps (x .1) γs) ⊛ raw (owed ps κs b o (x .1) γs)))) (lends-parts vss ps (x .1) (is .1)) $ await ! tt $ pick ! (λ γs. split ! $ at-once ! $
+        qed W ((‵ (cell f (x .0)) ⊛ raw (cells ps b o (x .1))) ∷ ‵ (owns (typesAt rest κs) a vss) ∷ []) ∵ updating ! $ split ! $
+        move ! (1 ∷ 2 ∷ []) $ use2 W (Others vss ps (x .1)) (lends-parts vss ps (x .1) (is .1)) $ await ! tt $ pick ! (λ γs. split ! $ at-once ! $
         show ! (Lent vss ((take, f) ∷ ps) x) (0, γs) $ owned ! (f .F) (Is (f .F)) (f .makes M 𝓤 H A W) (x .0) _ (is .0) $ fjoin ! $ frame ! $ move ! (1 ∷ 0 ∷ []) $ done !)
     lends-parts vss ((keep, f) ∷ ps) x is =
-        qed W ((‵ (fat fullShare (lone (f .F .mir)) b (o + f .d) (f .spell (x .0))) ⊛ raw (cells ps b o (x .1))) ∷ ‵ (owns (typesAt rest κs) a vss) ∷ []) ∵ updating ! $ split ! $
-        move ! (1 ∷ 2 ∷ []) $ use2 W (later (some (λ (γs : Names ps). ‵ (Got vss ps (x .1) γs) ⊛ raw (owed ps κs b o (x .1) γs)))) (lends-parts vss ps (x .1) (is .1)) $ await ! tt $ pick ! (λ γs. split ! $ at-once ! $
+        qed W ((‵ (cell f (x .0)) ⊛ raw (cells ps b o (x .1))) ∷ ‵ (owns (typesAt rest κs) a vss) ∷ []) ∵ updating ! $ split ! $
+        move ! (1 ∷ 2 ∷ []) $ use2 W (Others vss ps (x .1)) (lends-parts vss ps (x .1) (is .1)) $ await ! tt $ pick ! (λ γs. split ! $ at-once ! $
         show ! (Lent vss ((keep, f) ∷ ps) x) (0, γs) $ frame ! $ move ! (1 ∷ 0 ∷ []) $ done !)
 
     module _ (ks : Kepts rest) (α : Lft) where
+      -- the lifetime of what was lent is over
       over : (κ : Lft) → κ ≡ α → ent 𝓤 (A .dead α) (A .dead κ)
       over κ e = subst (λ (β : Lft). ent 𝓤 (A .dead β) (A .dead κ)) e (id⊢ 𝓤 (A .dead κ))
 
@@ -242,6 +261,10 @@ module _ {M : Type 1} (𝓤 : URA M) (H : Heap 𝓤) (A : Atoms 𝓤) where
       abbrev Rest : (ps : Parts n) (x : Whole ps) (γs : Names ps) → Ws ps x γs → Fml
       Rest ps x γs ws = lastsOf κs rest ks a (others rest κs b o ks a ps x γs ws)
 
+      -- what comes back of the parts after the first
+      abbrev Returned : (ps : Parts n) (x : Whole ps) (γs : Names ps) → Ws ps x γs → Item 𝓤
+      Returned ps x γs ws = later (given (AllIs ps (New ps x γs ws)) (raw (cells ps b o (New ps x γs ws)) ⊛ ‵ (Rest ps x γs ws)))
+
       pub parts-back : (ps : Parts n) (x : Whole ps) (γs : Names ps) (ws : Ws ps x γs) → Ends κs α ps → AllIs ps x
           → ent 𝓤 (sep 𝓤 (A .dead α) (sep 𝓤 (owed ps κs b o x γs) (sem 𝓤 H A (Said ps x γs ws)))) (H .⇛ (guard 𝓤 (AllIs ps (New ps x γs ws)) (sep 𝓤 (cells ps b o (New ps x γs ws)) (sem 𝓤 H A (Rest ps x γs ws)))))
       parts-back [] x γs ws en is = qed W (‵ (fdead α) ∷ raw (emp 𝓤) ∷ ‵ (lastsOf κs rest ks a ws) ∷ []) ∵ updating ! $ at-once ! $ check ! tt $ hold ! (1 ∷ 2 ∷ []) $ done !
@@ -249,28 +272,26 @@ module _ {M : Type 1} (𝓤 : URA M) (H : Heap 𝓤) (A : Atoms 𝓤) where
           qed W (‵ (fdead α) ∷ (‵ (flent (lftAt n j ok κs) (Body (mem (f .F)) b (o + f .d) (γs .0))) ⊛ raw (owed ps κs b o (x .1) (γs .1))) ∷ ‵ (Said ((change j ok, f) ∷ ps) x γs ws) ∷ []) ∵ updating ! $
           use1 W (‵ (fdead α) ⊛ ‵ (fdead α)) (W .lfts .dead-dup α) $ split ! $ move ! (2 ∷ []) $ split ! $ move ! (4 ∷ []) $ fsplit ! $
           -- [the last value; the others; the lender's part; the others'; †; †]
-          move ! (4 ∷ []) $ use1 W (‵ (fdead (lftAt n j ok κs))) (over (lftAt n j ok κs) (en .0)) $ move ! (0 ∷ 3 ∷ 1 ∷ []) $ use3 W (later (‵ (partAt (f .F) fullShare (ws .0) b (o + f .d)))) (ref-back 𝓤 H A W (f .F) (lftAt n j ok κs) (γs .0) (ws .0) b (o + f .d)) $ await ! tt $
-          use1 W (some (λ (v : Val). ‵ (fat fullShare (lone (f .F .mir)) b (o + f .d) v) ⊛ ‵ (f .F .own (ws .0) (v ∷ [])))) (part-out 𝓤 H A W (f .F) (f .one) fullShare (ws .0) b (o + f .d)) $ pick ! (λ v. split ! $ move ! (1 ∷ []) $
-          peeks ! (f .F) (Is (f .F)) (shows 𝓤 H A (f .F)) (ws .0) (v ∷ []) (λ p. drop ! $ rewrite ! 0 (λ (u : Val). ‵ (fat fullShare (lone (f .F .mir)) b (o + f .d) u)) (ap only (f .tells (ws .0) (v ∷ []) p)) refl $
+          move ! (4 ∷ []) $ use1 W (‵ (fdead (lftAt n j ok κs))) (over (lftAt n j ok κs) (en .0)) $ move ! (0 ∷ 3 ∷ 1 ∷ []) $ use3 W (later (‵ (part f (ws .0)))) (ref-back 𝓤 H A W (f .F) (lftAt n j ok κs) (γs .0) (ws .0) b (o + f .d)) $ await ! tt $
+          use1 W (given (Is (f .F) (ws .0) (f .spell (ws .0) ∷ [])) (‵ (cell f (ws .0)))) (to-cell f (ws .0)) $ learn ! (λ one.
           -- [the cell; the other last values; the others' lender's part; †]
-          move ! (3 ∷ 2 ∷ 1 ∷ []) $ use3 W (later (given (AllIs ps (New ps (x .1) (γs .1) (ws .1))) (raw (cells ps b o (New ps (x .1) (γs .1) (ws .1))) ⊛ ‵ (Rest ps (x .1) (γs .1) (ws .1))))) (parts-back ps (x .1) (γs .1) (ws .1) (en .1) (is .1)) $ await ! tt $ learn ! (λ iss. split ! $ at-once ! $
-          check ! (subst (λ (us : List Val). Is (f .F) (ws .0) us) (f .tells (ws .0) (v ∷ []) p) p, iss) $ move ! (2 ∷ 0 ∷ []) $ join ! $ done !)))
+          move ! (3 ∷ 2 ∷ 1 ∷ []) $ use3 W (Returned ps (x .1) (γs .1) (ws .1)) (parts-back ps (x .1) (γs .1) (ws .1) (en .1) (is .1)) $ await ! tt $ learn ! (λ iss. split ! $ at-once ! $
+          check ! (one, iss) $ move ! (2 ∷ 0 ∷ []) $ join ! $ done !))
       parts-back ((look j ok, f) ∷ ps) x γs ws en is =
-          qed W (‵ (fdead α) ∷ (‵ (flent (lftAt n j ok κs) (partAt (f .F) fullShare (x .0) b (o + f .d))) ⊛ raw (owed ps κs b o (x .1) (γs .1))) ∷ ‵ (Said ((look j ok, f) ∷ ps) x γs ws) ∷ []) ∵ updating ! $
+          qed W (‵ (fdead α) ∷ (‵ (flent (lftAt n j ok κs) (part f (x .0))) ⊛ raw (owed ps κs b o (x .1) (γs .1))) ∷ ‵ (Said ((look j ok, f) ∷ ps) x γs ws) ∷ []) ∵ updating ! $
           use1 W (‵ (fdead α) ⊛ ‵ (fdead α)) (W .lfts .dead-dup α) $ split ! $ move ! (2 ∷ []) $ split ! $ move ! (4 ∷ []) $ fsplit ! $ drop ! $
           -- [the other last values; the lender's part; the others'; †; †]
-          move ! (3 ∷ []) $ use1 W (‵ (fdead (lftAt n j ok κs))) (over (lftAt n j ok κs) (en .0)) $ move ! (0 ∷ 2 ∷ []) $ use2 W (later (‵ (partAt (f .F) fullShare (x .0) b (o + f .d)))) (W .bors .lent-back (lftAt n j ok κs) (partAt (f .F) fullShare (x .0) b (o + f .d))) $ await ! tt $
-          use1 W (some (λ (v : Val). ‵ (fat fullShare (lone (f .F .mir)) b (o + f .d) v) ⊛ ‵ (f .F .own (x .0) (v ∷ [])))) (part-out 𝓤 H A W (f .F) (f .one) fullShare (x .0) b (o + f .d)) $ pick ! (λ v. split ! $ move ! (1 ∷ []) $
-          peeks ! (f .F) (Is (f .F)) (shows 𝓤 H A (f .F)) (x .0) (v ∷ []) (λ p. drop ! $ rewrite ! 0 (λ (u : Val). ‵ (fat fullShare (lone (f .F .mir)) b (o + f .d) u)) (ap only (f .tells (x .0) (v ∷ []) p)) refl $
-          move ! (3 ∷ 2 ∷ 1 ∷ []) $ use3 W (later (given (AllIs ps (New ps (x .1) (γs .1) (ws .1))) (raw (cells ps b o (New ps (x .1) (γs .1) (ws .1))) ⊛ ‵ (Rest ps (x .1) (γs .1) (ws .1))))) (parts-back ps (x .1) (γs .1) (ws .1) (en .1) (is .1)) $ await ! tt $ learn ! (λ iss. split ! $ at-once ! $
-          check ! (is .0, iss) $ move ! (2 ∷ 0 ∷ []) $ join ! $ done !)))
+          move ! (3 ∷ []) $ use1 W (‵ (fdead (lftAt n j ok κs))) (over (lftAt n j ok κs) (en .0)) $ move ! (0 ∷ 2 ∷ []) $ use2 W (later (‵ (part f (x .0)))) (W .bors .lent-back (lftAt n j ok κs) (part f (x .0))) $ await ! tt $
+          use1 W (given (Is (f .F) (x .0) (f .spell (x .0) ∷ [])) (‵ (cell f (x .0)))) (to-cell f (x .0)) $ learn ! (λ one.
+          move ! (3 ∷ 2 ∷ 1 ∷ []) $ use3 W (Returned ps (x .1) (γs .1) (ws .1)) (parts-back ps (x .1) (γs .1) (ws .1) (en .1) (is .1)) $ await ! tt $ learn ! (λ iss. split ! $ at-once ! $
+          check ! (one, iss) $ move ! (2 ∷ 0 ∷ []) $ join ! $ done !))
       parts-back ((take, f) ∷ ps) x γs ws en is =
-          qed W (‵ (fdead α) ∷ (‵ (fat fullShare (lone (f .F .mir)) b (o + f .d) (f .spell (x .0))) ⊛ raw (owed ps κs b o (x .1) (γs .1))) ∷ ‵ (Said ((take, f) ∷ ps) x γs ws) ∷ []) ∵ updating ! $ move ! (1 ∷ []) $ split ! $ move ! (3 ∷ []) $ fsplit ! $ drop ! $
+          qed W (‵ (fdead α) ∷ (‵ (cell f (x .0)) ⊛ raw (owed ps κs b o (x .1) (γs .1))) ∷ ‵ (Said ((take, f) ∷ ps) x γs ws) ∷ []) ∵ updating ! $ move ! (1 ∷ []) $ split ! $ move ! (3 ∷ []) $ fsplit ! $ drop ! $
           -- [the other last values; the cell; the others' lender's part; †]
-          move ! (3 ∷ 2 ∷ 0 ∷ []) $ use3 W (later (given (AllIs ps (New ps (x .1) (γs .1) (ws .1))) (raw (cells ps b o (New ps (x .1) (γs .1) (ws .1))) ⊛ ‵ (Rest ps (x .1) (γs .1) (ws .1))))) (parts-back ps (x .1) (γs .1) (ws .1) en (is .1)) $ await ! tt $ learn ! (λ iss. split ! $ at-once ! $
+          move ! (3 ∷ 2 ∷ 0 ∷ []) $ use3 W (Returned ps (x .1) (γs .1) (ws .1)) (parts-back ps (x .1) (γs .1) (ws .1) en (is .1)) $ await ! tt $ learn ! (λ iss. split ! $ at-once ! $
           check ! (is .0, iss) $ move ! (2 ∷ 0 ∷ []) $ join ! $ done !)
       parts-back ((keep, f) ∷ ps) x γs ws en is =
-          qed W (‵ (fdead α) ∷ (‵ (fat fullShare (lone (f .F .mir)) b (o + f .d) (f .spell (x .0))) ⊛ raw (owed ps κs b o (x .1) (γs .1))) ∷ ‵ (Said ps (x .1) (γs .1) ws) ∷ []) ∵ updating ! $ move ! (1 ∷ []) $ split ! $
+          qed W (‵ (fdead α) ∷ (‵ (cell f (x .0)) ⊛ raw (owed ps κs b o (x .1) (γs .1))) ∷ ‵ (Said ps (x .1) (γs .1) ws) ∷ []) ∵ updating ! $ move ! (1 ∷ []) $ split ! $
           -- [the cell; the others' lender's part; †; the last values]
-          move ! (2 ∷ 1 ∷ 3 ∷ []) $ use3 W (later (given (AllIs ps (New ps (x .1) (γs .1) ws)) (raw (cells ps b o (New ps (x .1) (γs .1) ws)) ⊛ ‵ (Rest ps (x .1) (γs .1) ws)))) (parts-back ps (x .1) (γs .1) ws en (is .1)) $ await ! tt $ learn ! (λ iss. split ! $ at-once ! $
+          move ! (2 ∷ 1 ∷ 3 ∷ []) $ use3 W (Returned ps (x .1) (γs .1) ws) (parts-back ps (x .1) (γs .1) ws en (is .1)) $ await ! tt $ learn ! (λ iss. split ! $ at-once ! $
           check ! (is .0, iss) $ move ! (2 ∷ 0 ∷ []) $ join ! $ done !)

@@ -61,4 +61,4 @@ returns-2 c =
     accepted-ends (call s) (held s) _ (edit-table (s .args .seat) (s .args .cell) (s .args .change) (held s) (put .0) (put .1) (put .2) (put .3)) (accepts (c .before .before .before .before .before))
 
 pub edit-into-spec : {M : Type 1} → statement M
-edit-into-spec = tie.close (tie.spec (λ c κs. search needs) (λ c. search needs) returns (λ c. search needs) put-edit-requires add-edits returns-2)
+edit-into-spec = tie.close (tie.spec (λ c κs. tt) (λ c. search needs) returns (λ c. search needs) put-edit-requires add-edits returns-2)

@@ -54,4 +54,4 @@ returns-2 c =
     accepted-ends (call s) (held s) _ (round-table (now (s .args .sets)) (held s) (c .put-sets .ensures)) (accepts (c .before .before))
 
 pub round-into-spec : {M : Type 1} → statement M
-round-into-spec = tie.close (tie.spec (λ c κs. search needs) (λ c. search needs) returns (λ c. search needs) mul-put-sets put-sets-requires add-rounds returns-2)
+round-into-spec = tie.close (tie.spec (λ c κs. tt) (λ c. search needs) returns (λ c. search needs) mul-put-sets put-sets-requires add-rounds returns-2)
