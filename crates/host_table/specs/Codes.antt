@@ -13,7 +13,7 @@ use Rattle.record.specs.Changes.{mapped}
 use Rattle.record.specs.Record.{Reading}
 use Rattle.record.specs.Writing.{answered, bufferWith}
 use Rattle.live_table.specs.declared.table.Table.{Table}
-use Rattle.live.specs.Answers.{doneOf}
+use Rattle.live.specs.Answers.{doneOf, headed}
 use Rattle.live.specs.Calls.{Call, answerTo, tableAfter}
 use Rattle.host.specs.declared.numbers.SeatNumber.{SeatNumber}
 use Rattle.host.specs.declared.results.LengthTold.{LengthTold}
@@ -24,7 +24,11 @@ use Rattle.host.specs.Results.{doneNumber, lengthTold}
 abbrev pub EndsWith : Call → (before : Table) (number : ℕ) (after : Table) → Type 0
 EndsWith call before number after = (number ≡ doneNumber (doneOf (answerTo call before))) × (after ≡ tableAfter call before)
 
--- The seat and the change of an edit as the library's step takes them: a change that is none goes with a seat that no record has.
+-- As `live`'s `EndsWhole`: a call that is handed the table's four numbers alone, whatever the arrays hold.
+abbrev pub EndsWholeWith : Call → (n t R E : ℕ) (number : ℕ) (n′ t′ R′ E′ : ℕ) → Type 0
+EndsWholeWith call n t R E number n′ t′ R′ E′ = (table : Table) → EndsWith call (headed table n t R E) number (headed table n′ t′ R′ E′)
+
+-- The seat and the change of an edit as the library's call takes them: a change that is none goes with a seat that no record has.
 pub record EditHanded (seat : SeatNumber) (change : ℤ) (handed : Seat) (given : ℤ) : Type 0 where
   pub whose : handed ≡ cond (leb (mapped change) (limits .largestMappedChange)) (record { 0 = atMost 255 (seat .0) }) (record { 0 = 255 })
   pub what : given ≡ cond (leb (mapped change) (limits .largestMappedChange)) change (pos 0)

@@ -1,4 +1,4 @@
-// The calls that change the live table.
+// The calls that change the live table. Each lends the table's parts to a covered function: nothing of the table is copied but its numbers.
 use crate::coded::coded_edit;
 use crate::coded::coded_opening;
 use crate::coded::coded_round;
@@ -13,9 +13,14 @@ ghost use Rattle.host_table.specs.Codes.{EndsWith};
 pub extern "C" fn ricecrock_table_open(table: &mut Table, seats: u32, bound: u32) -> u8
     ensures { λ r. ⌜ EndsWith (opening seats bound) (now (table .entry)) r (now (table .exit)) ⌝ }
 {
-    let step = coded_opening(*table, seats, bound);
-    *table = step.table;
-    step.code
+    coded_opening(
+        &mut table.seats,
+        &mut table.bound,
+        &mut table.rounds,
+        &mut table.edits,
+        seats,
+        bound,
+    )
 }
 
 // Adds a round, a loss set for each sender: 19, 11, 10, 4.
@@ -23,9 +28,18 @@ pub extern "C" fn ricecrock_table_open(table: &mut Table, seats: u32, bound: u32
 pub extern "C" fn ricecrock_table_add_round(table: &mut Table, sets: &[u16]) -> u8
     ensures { λ r. ⌜ EndsWith (round (now (sets .entry))) (now (table .entry)) r (now (table .exit)) ⌝ }
 {
-    let step = coded_round(*table, sets);
-    *table = step.table;
-    step.code
+    coded_round(
+        table.seats,
+        table.bound,
+        &mut table.rounds,
+        table.edits,
+        &mut table.losses,
+        &table.editors,
+        &table.times,
+        &table.cells,
+        &table.changes,
+        sets,
+    )
 }
 
 // Adds an edit at the present time: 19, 3, 12, 5.
@@ -38,7 +52,18 @@ pub extern "C" fn ricecrock_table_add_edit(
 ) -> u8
     ensures { λ r. ⌜ EndsWith (edit (seatNamed seat) cell change) (now (table .entry)) r (now (table .exit)) ⌝ }
 {
-    let step = coded_edit(*table, seat, cell, change);
-    *table = step.table;
-    step.code
+    coded_edit(
+        table.seats,
+        table.bound,
+        table.rounds,
+        &mut table.edits,
+        &table.losses,
+        &mut table.editors,
+        &mut table.times,
+        &mut table.cells,
+        &mut table.changes,
+        seat,
+        cell,
+        change,
+    )
 }

@@ -30,7 +30,7 @@ use Rattle.live_table.proofs.table.Table.Laws as Table′
 abbrev pub Stepping : RattleType → RattleType → Type 2
 Stepping X S = (M : Type 1) (𝓤 : URA M) (H : Heap 𝓤) (A : Atoms 𝓤) → Given 𝓤 H A → changed.Step 𝓤 H A Table.the-type Table′.the-laws X S
 
-module _ {M : Type 1} (𝓤 : URA M) (H : Heap 𝓤) (𝓜 : Model 𝓤 H) (𝓖 : GhostRules 𝓤 H) (𝓡 : Running 𝓤 H 𝓜) (γ : Env) {m : ℕ} {ps : List (Slot (suc m))} {ks : Kepts ps} {ps′ : List (Slot m)} {ks′ : Kepts ps′} {τs : List Ty} (hd : Handed m ps ks ps′ ks′ τs) (key f : Name) (k : ℕ) (r : Routine) (calls : γ f ≡ r) where
+module _ {M : Type 1} (𝓤 : URA M) (H : Heap 𝓤) (𝓜 : Model 𝓤 H) (𝓖 : GhostRules 𝓤 H) (𝓡 : Running 𝓤 H 𝓜) (γ : Env) {m : ℕ} {ps : List (Slot (suc m))} {ks : Kepts ps} {ps′ : List (Slot m)} {ks′ : Kepts ps′} {τs : List Ty} (hd : Handed m 0 ps ks ps′ ks′ τs) (key f : Name) (k : ℕ) (r : Routine) (calls : γ f ≡ r) where
   abbrev A : Atoms 𝓤
   A = 𝓖 .A
 

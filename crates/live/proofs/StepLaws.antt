@@ -7,7 +7,7 @@ use Prim.Native.Nat.{ℕ, zero, suc, _+_, _-_, _*_, _^_, _≤_, _<_}
 use native.Mathlib.Omega.{arith}
 use lib.Dec.{eqb}
 use lib.IntN.{ℤ, pos, negsuc}
-use lib.ListN.{length, take, getD, set}
+use lib.ListN.{length, take, getD}
 use lib.Seq.{length-take-le, take-suc}
 use mir.Syntax.{w16}
 use mir.Val.{SFits}
@@ -29,13 +29,12 @@ use Rattle.record.specs.declared.edits.Edit.{Edit}
 use Rattle.record.proofs.GoodLaws.{header-facts, header-from-facts, edit-facts, edit-from-facts, record-facts}
 use Rattle.live.specs.declared.answers.Done.{Done}
 use Rattle.live.specs.declared.answers.Done.the-variants.{Accepted, Refused}
-use Rattle.live.specs.declared.answers.Step.{Step}
 use Rattle.live_table.specs.declared.table.Table.{Table}
-use Rattle.live.specs.Answers.{doneOf, refusing, Ends}
+use Rattle.live.specs.Answers.{doneOf, Ends}
 use Rattle.live.specs.Calls.{Call, opening, round, edit, emptyHeader, presentEdit, round11, round10, round4, edit3, edit12, edit5, testsOf, firstFailing, Held, added, keptOr, answerTo, tableAfter}
-use Rattle.live_table.specs.Used.{usedRecord}
+use Rattle.live_table.specs.Used.{usedRecord, tableOf}
 use Rattle.live_table.proofs.SoundLaws.{not-so, sets-fit}
-use Rattle.live_table.proofs.ListLaws.{edits-from-append, over-one}
+use Rattle.live_table.proofs.ListLaws.{edits-from-append}
 use Rattle.live.proofs.GoodSteps.{all-pass}
 
 -- ════ An opening ════
@@ -79,19 +78,9 @@ module _ (sets : List Seats) (table : Table) where
         round-on ∙ rw (lt-ltb (table .rounds) 127 h, header, one, one-round-fits (eqb (length sets) (table .seats)))
 
 -- The table with the new sets in their place.
-pub round-table : (sets : List Seats) (table : Table) (losses : List Seats) → losses ≡ over (table .seats * table .rounds) sets (table .losses)
-    → _≡_ {A = Table} (record {
-      seats = table .seats;
-      bound = table .bound;
-      rounds = table .rounds + 1;
-      edits = table .edits;
-      losses = losses;
-      editors = table .editors;
-      times = table .times;
-      cells = table .cells;
-      changes = table .changes;
-    }) (added (round sets) table)
-round-table sets table losses e = rw e
+pub round-table : (sets : List Seats) (table : Table) {losses : List Seats} → losses ≡ over (table .seats * table .rounds) sets (table .losses)
+    → tableOf losses (table .editors) (table .times) (table .cells) (table .changes) (table .seats) (table .bound) (table .rounds + 1) (table .edits) ≡ added (round sets) table
+round-table sets table e = rw e
 
 -- ════ An edit ════
 
@@ -182,39 +171,23 @@ module _ (seat : Seat) (cell : ℕ) (change : ℤ) (table : Table) where
             edit-on ∙ rw (sound, lt-ltb (table .edits) 512 room, late)
 
 -- The table with the new edit in its place.
-pub edit-table : (seat : Seat) (cell : ℕ) (change : ℤ) (table : Table) (put : ℤ) → put ≡ change → Held (table .edits + 1) (table .editors) (table .times) (table .cells) (table .changes)
-    → _≡_ {A = Table} (record {
-      seats = table .seats;
-      bound = table .bound;
-      rounds = table .rounds;
-      edits = table .edits + 1;
-      losses = table .losses;
-      editors = set (table .editors) (table .edits) (seat .0);
-      times = set (table .times) (table .edits) (table .rounds);
-      cells = set (table .cells) (table .edits) cell;
-      changes = set (table .changes) (table .edits) put;
-    }) (added (edit seat cell change) table)
-edit-table seat cell change table put e h =
-    rw (
-      e,
-      over-one (table .edits) (seat .0) (table .editors) (omega arith),
-      over-one (table .edits) (table .rounds) (table .times) (omega arith),
-      over-one (table .edits) cell (table .cells) (omega arith),
-      over-one (table .edits) change (table .changes) (omega arith),
-    )
+pub edit-table : (seat : Seat) (cell : ℕ) (change : ℤ) (table : Table) {editors times cells : List ℕ} {changes : List ℤ}
+    → editors ≡ over (table .edits) (seat .0 ∷ []) (table .editors) → times ≡ over (table .edits) (table .rounds ∷ []) (table .times)
+    → cells ≡ over (table .edits) (cell ∷ []) (table .cells) → changes ≡ over (table .edits) (change ∷ []) (table .changes)
+    → tableOf (table .losses) editors times cells changes (table .seats) (table .bound) (table .rounds) (table .edits + 1) ≡ added (edit seat cell change) table
+edit-table seat cell change table who when where′ heights = rw (who, when, where′, heights)
 
--- ════ What a step hands back ════
+-- ════ How a call ends ════
 
 module _ (call : Call) (table : Table) where
-  pub refused-step : (s : Step) (refusal : Refusal) → s ≡ refusing refusal table → answerTo call table ≡ faulty refusal
-      → Ends call table (s .answer) (s .table)
+  pub refused-ends : (refusal : Refusal) → answerTo call table ≡ faulty refusal → Ends call table (Refused refusal) table
   unfolding doneOf tableAfter keptOr
-  refused-step s refusal e v = rw (e, v) (refl, refl)
+  refused-ends refusal v = rw v (refl, refl)
 
-  pub accepted-step : (after : Table) → after ≡ added call table → answerTo call table ≡ accepted
+  pub accepted-ends : (after : Table) → after ≡ added call table → answerTo call table ≡ accepted
       → Ends call table Accepted after
   unfolding doneOf tableAfter keptOr
-  accepted-step after e v = rw v (refl, e)
+  accepted-ends after e v = rw v (refl, e)
 
 -- ════ What the tests answer ════
 

@@ -70,7 +70,7 @@ pub record Step {M : Type 1} (𝓤 : URA M) (H : Heap 𝓤) (A : Atoms 𝓤) (TT
   pub tabled : (s : S .Denot) (w : Val) → Is S s (w ∷ []) → Is (row TT) (table s) (LL.vals TT L (table s))
   pub makes : Makes 𝓤 H A X (Is X)
 
-module _ {M : Type 1} (𝓤 : URA M) (H : Heap 𝓤) (A : Atoms 𝓤) (W : Given 𝓤 H A) (TT : Declared) (L : LL.Laws TT) (pl : Plains (fields TT)) (m : ℕ) (ps : List (Slot (suc m))) (ks : Kepts ps) (ps′ : List (Slot m)) (ks′ : Kepts ps′) (τs : List Ty) (hd : Handed m ps ks ps′ ks′ τs)
+module _ {M : Type 1} (𝓤 : URA M) (H : Heap 𝓤) (A : Atoms 𝓤) (W : Given 𝓤 H A) (TT : Declared) (L : LL.Laws TT) (pl : Plains (fields TT)) (m : ℕ) (ps : List (Slot (suc m))) (ks : Kepts ps) (ps′ : List (Slot m)) (ks′ : Kepts ps′) (τs : List Ty) (hd : Handed m 0 ps ks ps′ ks′ τs)
     (X S : RattleType) (st : Step 𝓤 H A TT L X S) (c : Clauses 𝓤 (Changer TT m ps ks X)) (c′ : Clauses 𝓤 (Taker TT m ps′ ks′ S)) where
   abbrev T : Ended
   T = Changer TT m ps ks X
@@ -80,13 +80,13 @@ module _ {M : Type 1} (𝓤 : URA M) (H : Heap 𝓤) (A : Atoms 𝓤) (W : Given
 
   -- what the step is handed
   abbrev to : (κs : Lfts (suc m)) → Args (T .signature) κs → Args (T′ .signature) (κs .1)
-  to κs a = (now (a .0), hd .args κs (a .1))
+  to κs a = (now (a .0), hd .args κs (κs .0) (a .1))
 
   pub record Agrees : Type 1 where
     pub ghost : (κs : Lfts (suc m)) (a : Args (T .signature) κs) → c κs a .ghost → c′ (κs .1) (to κs a) .ghost
     pub asks : (κs : Lfts (suc m)) (a : Args (T .signature) κs) (g : c κs a .ghost) → ent 𝓤 (c κs a .requires g) (c′ (κs .1) (to κs a) .requires (ghost κs a g))
     pub says : (κs : Lfts (suc m)) (a : Args (T .signature) κs) (g : c κs a .ghost) (s : S .Denot) (ws : Lasts T′ (κs .1) (to κs a))
-        → ent 𝓤 (c′ (κs .1) (to κs a) .ensures (ghost κs a g) s (atExit T′ (κs .1) (to κs a) ws)) (c κs a .ensures g (st .answer s) (atExit T κs a (st .table s, hd .fins κs (a .1) (ws .1))))
+        → ent 𝓤 (c′ (κs .1) (to κs a) .ensures (ghost κs a g) s (atExit T′ (κs .1) (to κs a) ws)) (c κs a .ensures g (st .answer s) (atExit T κs a (st .table s, hd .fins κs (κs .0) (a .1) (ws .1))))
 
   module _ (ag : Agrees) (f : Name) (k : ℕ) (𝓣 : Tables 𝓤 H) (met : Triple 𝓤 (𝓣 .C f) (tripleOf 𝓤 H A (T′ .signature) (closing 𝓤 H A T′ c′))) where
     module _ (κs : Lfts (suc m)) (qs : Shares (suc m)) (a : Args (T .signature) κs) (vss : Valss (typesAt ps κs)) (g : c κs a .ghost) where
@@ -113,7 +113,7 @@ module _ {M : Type 1} (𝓤 : URA M) (H : Heap 𝓤) (A : Atoms 𝓤) (W : Given
 
       -- what the step's triple binds outside
       abbrev y′ : tripleOf 𝓤 H A (T′ .signature) (closing 𝓤 H A T′ c′) .Ghost
-      y′ = ((κs .1, qs .1, tt, to κs a, (LL.vals TT L h, hd .vals κs vss)), ag .ghost κs a g)
+      y′ = ((κs .1, qs .1, tt, to κs a, (LL.vals TT L h, hd .vals κs (κs .0) vss)), ag .ghost κs a g)
 
       abbrev Pre : SProp 𝓤
       Pre = sep 𝓤 (sep 𝓤 (sep 𝓤 (A .lft κ q) (toks 𝓤 A m (κs .1) (qs .1))) (sem 𝓤 H A (owns (MutRef (named 0) κ R ∷ typesAt ps κs) a (vptr b o ∷ [], vss)))) (c κs a .requires g)
@@ -130,7 +130,7 @@ module _ {M : Type 1} (𝓤 : URA M) (H : Heap 𝓤) (A : Atoms 𝓤) (W : Given
           move ! (1 ∷ []) $ fsplit ! $ fsplit3 ! $ drop ! $ move ! (3 ∷ []) $ split ! $ move ! (2 ∷ 3 ∷ 0 ∷ []) $
           opens ! tt R {h = h} b o (λ vs. spelt ! R (Is R) (shows 𝓤 H A R) (LL.vals TT L) (LL.tells TT L) fullShare h vs b o $ at-once ! $ frame ! $
           -- [what the table owns; the open borrow; obs; auth; the other tokens; the other parameters; what f requires]
-          move ! (5 ∷ []) $ recast W (‵ (owns (typesAt ps′ (κs .1)) (hd .args κs (a .1)) (hd .vals κs vss))) (λ i. sem 𝓤 H A (hd .own κs (a .1) vss i)) $
+          move ! (5 ∷ []) $ recast W (‵ (owns (typesAt ps′ (κs .1)) (hd .args κs (κs .0) (a .1)) (hd .vals κs (κs .0) vss))) (λ i. sem 𝓤 H A (hd .own κs (κs .0) (a .1) vss i)) $
           move ! (1 ∷ 0 ∷ []) $ fjoin ! $ move ! (4 ∷ 0 ∷ []) $ join ! $ move ! (4 ∷ []) $ use1 W (raw (c′ (κs .1) (to κs a) .requires (ag .ghost κs a g))) (ag .asks κs a g) $
           move ! (1 ∷ 0 ∷ []) $ join ! $ frame ! $ done !)
 
@@ -162,8 +162,8 @@ module _ {M : Type 1} (𝓤 : URA M) (H : Heap 𝓤) (A : Atoms 𝓤) (W : Given
           -- [obs at the step's table; the borrow; the token; the other tokens; the last values; what the step ensures]
           show ! (λ (r : X .Denot). sep 𝓤 (Back 𝓤 H A (T .signature) (κs, qs, tt, a, (vptr b o ∷ [], vss)) (st .tells (st .answer s)) r) (ensured 𝓤 H A T c κs a g r)) (st .answer s) $
           move ! (2 ∷ 3 ∷ []) $ join ! $ owned ! X (Is X) (st .makes) (st .answer s) _ (st .answered s w is) $ move ! (1 ∷ 0 ∷ []) $ join ! $ frame ! $
-          show ! (λ (us : Lasts T κs a). sep 𝓤 (sem 𝓤 H A (lasts T κs a us)) (c κs a .ensures g (st .answer s) (atExit T κs a us))) (st .table s, hd .fins κs (a .1) (ws .1)) $
-          move ! (2 ∷ []) $ fsplit ! $ drop ! $ recast W (‵ (lastsOf κs ps ks (a .1) (hd .fins κs (a .1) (ws .1)))) (λ i. sem 𝓤 H A (hd .lasts κs (a .1) (ws .1) i)) $
+          show ! (λ (us : Lasts T κs a). sep 𝓤 (sem 𝓤 H A (lasts T κs a us)) (c κs a .ensures g (st .answer s) (atExit T κs a us))) (st .table s, hd .fins κs (κs .0) (a .1) (ws .1)) $
+          move ! (2 ∷ []) $ fsplit ! $ drop ! $ recast W (‵ (lastsOf κs ps ks (a .1) (hd .fins κs (κs .0) (a .1) (ws .1)))) (λ i. sem 𝓤 H A (hd .lasts κs (κs .0) (a .1) (ws .1) i)) $
           move ! (1 ∷ []) $ use1 W (‵ (fres γ (R .coded .code (st .table s)))) (W .names .obs-res γ (R .coded .code (st .table s))) $ move ! (0 ∷ 1 ∷ []) $ fjoin ! $ frame ! $ keep ! (1 ∷ []) $ by ! (ag .says κs a g s ws)
 
       core : Typed τs (flat (typesAt ps κs) vss) → ent 𝓤 Pre (WpFn 𝓤 H (𝓣 .C) (𝓣 .Λ) (changing (suc m) k (st .title) (st .told) (lies TT) (pointee (R .written)) τs f) (vptr b o ∷ flat (typesAt ps κs) vss) (tripleOf 𝓤 H A (T .signature) (closing 𝓤 H A T c) .post ((κs, qs, tt, a, (vptr b o ∷ [], vss)), g)))
@@ -171,7 +171,7 @@ module _ {M : Type 1} (𝓤 : URA M) (H : Heap 𝓤) (A : Atoms 𝓤) (W : Given
           (changes 𝓤 H A W (𝓣 .C) (𝓣 .Λ) (fmOf 𝓤 H (W .laws) 𝓣) (suc m) k (st .title) (st .told) (lies TT) (pointee (R .written)) τs f (st .told-at) (st .table-at) (st .told-is) (st .table-is) b o (LL.val TT L h) (flat (typesAt ps κs) vss) ty
           Pre Asked Kept (tripleOf 𝓤 H A (T′ .signature) (closing 𝓤 H A T′ c′) .post y′) (tripleOf 𝓤 H A (T .signature) (closing 𝓤 H A T c) .post ((κs, qs, tt, a, (vptr b o ∷ [], vss)), g))
           Z (λ z. st .tells (st .answer (z .0))) (λ z. LL.val TT L (st .table (z .0))) Left before
-          (subst (λ (us : List Val). ent 𝓤 Asked (𝓣 .C f (LL.val TT L h ∷ us) (tripleOf 𝓤 H A (T′ .signature) (closing 𝓤 H A T′ c′) .post y′))) (hd .flats κs vss ∙ sym (append-nil (flat (typesAt ps κs) vss))) (met y′)) back ends)
+          (subst (λ (us : List Val). ent 𝓤 Asked (𝓣 .C f (LL.val TT L h ∷ us) (tripleOf 𝓤 H A (T′ .signature) (closing 𝓤 H A T′ c′) .post y′))) (hd .flats κs (κs .0) vss ∙ sym (append-nil (flat (typesAt ps κs) vss))) (met y′)) back ends)
 
     pub changed : Meets 𝓤 H A (T .signature) (WpFn 𝓤 H (𝓣 .C) (𝓣 .Λ) (changing (suc m) k (st .title) (st .told) (lies TT) (pointee (row TT .written)) τs f)) (closing 𝓤 H A T c)
     changed = enters 𝓤 H A (suc m) (λ κs. MutRef (named 0) (κs .0) (row TT)) ps (plain (λ _. X)) τs (λ κs. ptr-vals) (λ κs. mut-tells (named 0) (κs .0) (row TT)) (hd .types) (hd .laws M 𝓤 H A W) (closing 𝓤 H A T c)

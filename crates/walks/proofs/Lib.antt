@@ -6,5 +6,7 @@ pub mod Changed
 pub mod Slices
 pub mod Picks
 pub mod Picked
+pub mod Loans
+pub mod Lent
 pub mod Parameters
 pub mod Answered

@@ -14,20 +14,20 @@ use Rattle.farm.proofs.places.Seat as Seat
 use Rattle.farm.proofs.places.Seat.Laws as Seat′
 use Rattle.farm.proofs.places.Time as Time
 use Rattle.farm.proofs.places.Time.Laws as Time′
-use Rattle.walks.proofs.Handed.{Handed, by-value}
+use Rattle.walks.proofs.Handed.{Handed, plus, by-value}
 
-module _ {m : ℕ} {ps : List (Slot (suc m))} {ks : Kepts ps} {ps′ : List (Slot m)} {ks′ : Kepts ps′} {τs : List Ty} where
-  abbrev pub a-u8 : Handed m ps ks ps′ ks′ τs → Handed m (plain (λ _. u8) ∷ ps) (yes, ks) (plain (λ _. u8) ∷ ps′) (yes, ks′) (u8 .mir ++ τs)
+module _ {m l : ℕ} {ps : List (Slot (suc m))} {ks : Kepts ps} {ps′ : List (Slot (plus l m))} {ks′ : Kepts ps′} {τs : List Ty} where
+  abbrev pub a-u8 : Handed m l ps ks ps′ ks′ τs → Handed m l (plain (λ _. u8) ∷ ps) (yes, ks) (plain (λ _. u8) ∷ ps′) (yes, ks′) (u8 .mir ++ τs)
   a-u8 = by-value u8 (λ M 𝓤 H A W. uint-lawful 𝓤 H A W w8)
 
-  abbrev pub a-u32 : Handed m ps ks ps′ ks′ τs → Handed m (plain (λ _. u32) ∷ ps) (yes, ks) (plain (λ _. u32) ∷ ps′) (yes, ks′) (u32 .mir ++ τs)
+  abbrev pub a-u32 : Handed m l ps ks ps′ ks′ τs → Handed m l (plain (λ _. u32) ∷ ps) (yes, ks) (plain (λ _. u32) ∷ ps′) (yes, ks′) (u32 .mir ++ τs)
   a-u32 = by-value u32 (λ M 𝓤 H A W. uint-lawful 𝓤 H A W w32)
 
-  abbrev pub an-i16 : Handed m ps ks ps′ ks′ τs → Handed m (plain (λ _. i16) ∷ ps) (yes, ks) (plain (λ _. i16) ∷ ps′) (yes, ks′) (i16 .mir ++ τs)
+  abbrev pub an-i16 : Handed m l ps ks ps′ ks′ τs → Handed m l (plain (λ _. i16) ∷ ps) (yes, ks) (plain (λ _. i16) ∷ ps′) (yes, ks′) (i16 .mir ++ τs)
   an-i16 = by-value i16 (λ M 𝓤 H A W. sint-lawful 𝓤 H A W w16)
 
-  abbrev pub a-seat : Handed m ps ks ps′ ks′ τs → Handed m (plain (λ _. Seat.the-row) ∷ ps) (yes, ks) (plain (λ _. Seat.the-row) ∷ ps′) (yes, ks′) (Seat.the-row .mir ++ τs)
+  abbrev pub a-seat : Handed m l ps ks ps′ ks′ τs → Handed m l (plain (λ _. Seat.the-row) ∷ ps) (yes, ks) (plain (λ _. Seat.the-row) ∷ ps′) (yes, ks′) (Seat.the-row .mir ++ τs)
   a-seat = by-value Seat.the-row (λ M 𝓤 H A W. LL.lawful Seat.the-type Seat′.the-laws 𝓤 H A W)
 
-  abbrev pub a-time : Handed m ps ks ps′ ks′ τs → Handed m (plain (λ _. Time.the-row) ∷ ps) (yes, ks) (plain (λ _. Time.the-row) ∷ ps′) (yes, ks′) (Time.the-row .mir ++ τs)
+  abbrev pub a-time : Handed m l ps ks ps′ ks′ τs → Handed m l (plain (λ _. Time.the-row) ∷ ps) (yes, ks) (plain (λ _. Time.the-row) ∷ ps′) (yes, ks′) (Time.the-row .mir ++ τs)
   a-time = by-value Time.the-row (λ M 𝓤 H A W. LL.lawful Time.the-type Time′.the-laws 𝓤 H A W)

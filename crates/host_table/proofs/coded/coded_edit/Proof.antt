@@ -1,4 +1,4 @@
--- `host_table::coded::coded_edit` meets its contract: the number of what the step answers.
+-- `host_table::coded::coded_edit` meets its contract: the number of what the call on the table's parts answers.
 -- Assumes nothing.
 use native.Mathlib.Omega.{arith}
 use borrow.Author.Needs.{needs}
@@ -9,15 +9,18 @@ use Rattle.host_table.proofs.WideLaws.{ends-with, edit-handed}
 use Rattle.host_table.proofs.coded.coded_edit.Statement.{statement}
 use Rattle.host_table.proofs.coded.coded_edit.Tie as tie
 
-change-fits : (c : tie.After-struct-told) → SFits w16 (c .before .small-edit .result .change)
-change-fits c = record { sfits = omega (arith, c .struct-told .given) }
+module _ (c : tie.After-struct-told) where
+  abbrev small : tie.After-small-edit
+  small = c .before .before .before .before .before .before
+
+  change-fits : SFits w16 (small .small-edit .result .change)
+  change-fits = record { sfits = omega (arith, c .struct-told .given) }
 
 returns : tie.Need-returns
 returns c =
-    let step = c .before .before in
-    let ends = rw (toZ-ofZ w16 _ (change-fits (step .before))) at (step .with-edit .ensures) in
-    let start = step .before .before .before in
-    let handed = rw (toZ-ofZ w32 _ (start .fits .change)) at (step .before .before .small-edit .ensures) in
+    let told = c .before .before in
+    let ends = rw (toZ-ofZ w16 _ (change-fits told)) at (c .before .edit-into .ensures) in
+    let handed = rw (toZ-ofZ w32 _ (small told .before .fits .change)) at (small told .small-edit .ensures) in
     ends-with (edit-handed _ _ _ _ _ _ handed) ends (c .done-number .ensures)
 
 pub coded-edit-spec : {M : Type 1} → statement M
