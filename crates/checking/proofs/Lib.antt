@@ -1,5 +1,2 @@
-pub mod PassedLaws
-pub mod LossSteps
-pub mod EditSteps
 pub mod RecordLaws
 pub mod CompleteLaws

@@ -12,11 +12,11 @@ use Rattle.farm.specs.Sets.{Seats}
 use Rattle.farm.specs.declared.refusals.Refusal.{Refusal}
 use Rattle.farm.specs.declared.refusals.Refusal.the-variants.{BytesLeft}
 use Rattle.numbers.specs.declared.read.Cursor.{Cursor}
-use Rattle.checking.specs.declared.answers.Passed.{Passed}
-use Rattle.checking.specs.declared.answers.Passed.the-variants.{To, Refused as PassedRefused}
+use Rattle.parts.specs.declared.answers.Passed.{Passed}
+use Rattle.parts.specs.declared.answers.Passed.the-variants.{To, Refused as PassedRefused}
 use Rattle.record.specs.declared.header.Header.{Header}
-use Rattle.checking.specs.declared.answers.HeaderRead.{HeaderRead}
-use Rattle.checking.specs.declared.answers.HeaderRead.the-variants.{Header as HeaderFound, Refused as HeaderRefused}
+use Rattle.parts.specs.declared.answers.HeaderRead.{HeaderRead}
+use Rattle.parts.specs.declared.answers.HeaderRead.the-variants.{Header as HeaderFound, Refused as HeaderRefused}
 use Rattle.record.specs.declared.edits.Edit.{Edit}
 use Rattle.record.specs.declared.edits.Before.the-variants.{Nothing}
 use Rattle.record.specs.Taking.{Taken, value, refused, _>>=_}
@@ -25,11 +25,11 @@ use Rattle.record.specs.Losses.{takeRounds}
 use Rattle.record.specs.Edits.{takeEdits}
 use Rattle.record.specs.Record.{good, bad, takeRecord, whole, readingOf}
 use Rattle.numbers.specs.Cursors.{cursorAt}
-use Rattle.checking.specs.Parts.{headerIn, headerRefusalIn, passedIn, passedRefusalIn}
+use Rattle.parts.specs.Parts.{headerIn, headerRefusalIn, passedIn, passedRefusalIn}
 use Rattle.record.proofs.TakingLaws.{Tail}
 use Rattle.record.proofs.NumberLaws.{within-value}
 use Rattle.numbers.proofs.CursorLaws.{placed}
-use Rattle.checking.proofs.PassedLaws.{passed-was, passed-was-refused, passed-refusal-passed}
+use Rattle.parts.proofs.PassedLaws.{passed-was, passed-was-refused, passed-refusal-passed}
 use Rattle.record.proofs.HeaderLaws.{header-took, header-tail}
 use Rattle.record.proofs.LossLaws.{rounds-tail}
 use Rattle.record.proofs.EditLaws.{edits-tail}

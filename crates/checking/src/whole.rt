@@ -1,13 +1,13 @@
 // A whole record, looked through: is it good, and what does it begin with. Document 01, "The record" and
 // "Refusal numbers": the first faulty number in byte order decides.
-use crate::answers::HeaderRead;
-use crate::answers::Passed;
-use crate::answers::header_refusal;
-use crate::answers::passed_refusal;
-use crate::edit_reader::check_edits;
-use crate::header_reader::read_header;
-use crate::loss_reader::check_losses;
 use farm::refusals::Refusal;
+use parts::answers::HeaderRead;
+use parts::answers::Passed;
+use parts::answers::header_refusal;
+use parts::answers::passed_refusal;
+use parts::edit_reader::check_edits;
+use parts::header_reader::read_header;
+use parts::loss_reader::check_losses;
 use record::answers::Checked;
 ghost use mathlib.Core.Path.{_≡_};
 ghost use Rattle.record.specs.Document.{readingOf};

@@ -10,8 +10,8 @@ use lib.ListN.{length, drop, set, length-set}
 use Rattle.farm.specs.Limits.{limits}
 use Rattle.farm.specs.declared.refusals.Refusal.{Refusal}
 use Rattle.farm.specs.declared.refusals.Refusal.the-variants.{BadOrder}
-use Rattle.checking.specs.declared.answers.Passed.{Passed}
-use Rattle.checking.specs.declared.answers.Passed.the-variants.{To}
+use Rattle.parts.specs.declared.answers.Passed.{Passed}
+use Rattle.parts.specs.declared.answers.Passed.the-variants.{To}
 use Rattle.record.specs.declared.edits.Edit.{Edit}
 use Rattle.record.specs.declared.edits.Before.{Before}
 use Rattle.record.specs.declared.edits.Before.the-variants.{Nothing, This}
@@ -21,7 +21,7 @@ use Rattle.record.specs.Edits.{follows, takeEdit, takeEdits}
 use Rattle.reading.specs.Filling.{Gives, given, takeNumbers, AllBelow, EditsFilled}
 use Rattle.record.specs.Tables.{Tables, tables, over, seatsOf, timesOf, cellsOf, changesOf}
 use Rattle.numbers.specs.Cursors.{cursorAt}
-use Rattle.checking.specs.Parts.{passedIn}
+use Rattle.parts.specs.Parts.{passedIn}
 use Rattle.record.proofs.TakingLaws.{bind-value, value-not-refused}
 use Rattle.numbers.proofs.CursorLaws.{cursor-drop, Placed}
 use Rattle.record.proofs.TableLaws.{over-none, over-first, Column, column-start, column-on, column-end}

@@ -15,8 +15,8 @@ use Rattle.farm.specs.declared.places.Seat.{Seat}
 use Rattle.farm.specs.declared.refusals.Refusal.{Refusal}
 use Rattle.farm.proofs.Cases.{and-elim}
 use Rattle.numbers.specs.declared.read.Cursor.{Cursor}
-use Rattle.checking.specs.declared.answers.Passed.{Passed}
-use Rattle.checking.specs.declared.answers.Passed.the-variants.{To, Refused as PassedRefused}
+use Rattle.parts.specs.declared.answers.Passed.{Passed}
+use Rattle.parts.specs.declared.answers.Passed.the-variants.{To, Refused as PassedRefused}
 use Rattle.record.specs.declared.header.Header.{Header}
 use Rattle.record.specs.declared.edits.Edit.{Edit}
 use Rattle.record.specs.declared.edits.Before.the-variants.{Nothing}
@@ -30,7 +30,7 @@ use Rattle.reading.specs.Filling.{Gives, given, takeNumbers, AllBelow, E
 use Rattle.record.specs.Tables.{Tables, over, seatsOf, timesOf, cellsOf, changesOf, roomy, readInto, tablesAfter, TablesRead, Accepted}
 use Rattle.reading.specs.Outcome.{roomFor, ReadOutcome}
 use Rattle.numbers.specs.Cursors.{cursorAt}
-use Rattle.checking.specs.Parts.{passedIn}
+use Rattle.parts.specs.Parts.{passedIn}
 use Rattle.record.specs.Answers.{checkedOf}
 use Rattle.record.specs.declared.answers.Checked.{Checked}
 use Rattle.record.specs.declared.answers.Checked.the-variants.{Good, Refused as CheckedRefused}
@@ -38,7 +38,7 @@ use Rattle.farm.specs.declared.refusals.Refusal.the-variants.{NoRoom}
 use Rattle.record.proofs.TakingLaws.{bind-value, value-not-refused, Tail, tail-drop}
 use Rattle.record.proofs.GoodLaws.{set-facts}
 use Rattle.record.proofs.LossLaws.{set-took, rounds-tail}
-use Rattle.checking.proofs.PassedLaws.{passed-was-refused}
+use Rattle.parts.proofs.PassedLaws.{passed-was-refused}
 use Rattle.checking.proofs.RecordLaws.{from, from-is, Head}
 
 -- ════ A good reading comes apart ════

@@ -1,18 +1,18 @@
 // The second pass: a record that the first pass found good goes into lent tables. It is proved to meet no refusal; the code
 // still hands on whatever a reader answers, as the first pass does.
-use checking::answers::EditRead;
-use checking::answers::HeaderRead;
-use checking::answers::Passed;
-use checking::answers::edit_refusal;
-use checking::answers::header_refusal;
-use checking::answers::passed_refusal;
-use checking::header_reader::read_header;
 use farm::places::Seat;
 use farm::places::Time;
 use numbers::read::Cursor;
 use numbers::read::Number;
 use numbers::read::read_number;
 use numbers::read::refusal_of;
+use parts::answers::EditRead;
+use parts::answers::HeaderRead;
+use parts::answers::Passed;
+use parts::answers::edit_refusal;
+use parts::answers::header_refusal;
+use parts::answers::passed_refusal;
+use parts::header_reader::read_header;
 use record::answers::Checked;
 use record::changes::unmap_change;
 use record::edits::Edit;
@@ -23,7 +23,7 @@ ghost use lib.ListN.{length, drop};
 ghost use Rattle.farm.specs.Limits.{limits};
 ghost use Rattle.record.specs.declared.edits.Before.the-variants.{Nothing};
 ghost use Rattle.record.specs.Edits.{takeEdit, takeEdits};
-ghost use Rattle.checking.specs.Parts.{passedIn, editIn};
+ghost use Rattle.parts.specs.Parts.{passedIn, editIn};
 ghost use Rattle.reading.specs.Filling.{Gives, given, takeNumbers, AllBelow, EditsFilled, checkedTo};
 ghost use mathlib.Core.List.{[]};
 ghost use Rattle.record.specs.Tables.{over, tables, Accepted, TablesRead, roomy};

@@ -2,7 +2,7 @@
 -- Assumes nothing.
 use Rattle.reading.proofs.ReadLaws.{good-parts, Ready, ready, sets-ready, EditsReady, edits-ready, part-not-refused, good-answer, room, tables-filled}
 use Rattle.checking.proofs.RecordLaws.{Head, header-was, header-was-refused}
-use Rattle.checking.specs.Parts.{passedIn}
+use Rattle.parts.specs.Parts.{passedIn}
 use Rattle.record.proofs.TakingLaws.{value-not-refused}
 use Rattle.reading.specs.Filling.{checkedTo}
 use Rattle.farm.specs.Limits.{limits}

@@ -4,7 +4,7 @@ use mir.ValLaws.{toZ-ofZ}
 use mir.Val.{SFits}
 use mir.Syntax.{w16}
 use Rattle.reading.proofs.FillLaws.{EditsLeft, edits-start, edits-filled, edits-on, edits-give, edits-no-stop}
-use Rattle.checking.proofs.EditSteps.{edit-was, edit-was-refused}
+use Rattle.parts.proofs.EditSteps.{edit-was, edit-was-refused}
 use Rattle.record.specs.Tables.{tables}
 use denote.Ref.{now}
 use borrow.Author.Needs.{needs}

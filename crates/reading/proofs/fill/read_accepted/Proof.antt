@@ -1,12 +1,12 @@
 -- `reading::fill::read_accepted` meets its contract: the four fields that were taken stand one after the other, and none of them is refused.
 -- Assumes nothing.
-use Rattle.checking.specs.declared.answers.EditRead.the-variants.{Edit as EditFound}
+use Rattle.parts.specs.declared.answers.EditRead.the-variants.{Edit as EditFound}
 use mir.ValLaws.{toZ-ofZ}
 use mir.Syntax.{w16}
 use lib.IntN.{ℤ}
 use Rattle.reading.proofs.AgainLaws.{field-again, not-refused, seat-gives, time-gives, cell-gives, change-gives}
 use Rattle.numbers.proofs.CursorLaws.{Field, cursor-drop}
-use Rattle.checking.specs.Parts.{editIn}
+use Rattle.parts.specs.Parts.{editIn}
 use Rattle.record.specs.Edits.{takeEdit}
 use Rattle.record.specs.Taking.{_>>=_}
 use denote.Ref.{now}

@@ -21,7 +21,7 @@ ghost use lib.ListN.{drop};
 ghost use Rattle.farm.specs.Limits.{limits};
 ghost use Rattle.record.specs.Edits.{takeEdit, takeEdits};
 ghost use Rattle.record.specs.declared.edits.Before.the-variants.{Nothing};
-ghost use Rattle.checking.specs.Parts.{passedIn, editIn};
+ghost use Rattle.parts.specs.Parts.{passedIn, editIn};
 
 // The edit that begins at a cursor, each field tested against its range as it is read.
 pub fn read_edit(bytes: &[u8], from: Cursor, seats: u8, rounds: u16) -> EditRead

@@ -1,8 +1,8 @@
--- `checking::loss_reader::check_round` meets its contract. The loop's invariant: the whole round ends as what is left of it does.
+-- `parts::loss_reader::check_round` meets its contract. The loop's invariant: the whole round ends as what is left of it does.
 -- Assumes nothing.
-use Rattle.checking.proofs.LossSteps.{set-was, round-on, round-stops, round-ends}
+use Rattle.parts.proofs.LossSteps.{set-was, round-on, round-stops, round-ends}
 use Rattle.numbers.proofs.CursorLaws.{number-was-refused, refusal-passed}
-use Rattle.checking.specs.Parts.{passedIn}
+use Rattle.parts.specs.Parts.{passedIn}
 use Rattle.record.specs.Losses.{firstSeat, takeRound}
 use Rattle.farm.specs.Limits.{limits}
 use denote.Ref.{now}
@@ -12,8 +12,8 @@ use native.Mathlib.Omega.{arith}
 use native.Mathlib.Nat.{sub-zero}
 use Prim.Native.Nat.{_-_, _≤_}
 use mathlib.Core.Path.{_≡_, sym, _∙_}
-use Rattle.checking.proofs.loss_reader.check_round.Statement.{statement}
-use Rattle.checking.proofs.loss_reader.check_round.Tie as tie
+use Rattle.parts.proofs.loss_reader.check_round.Statement.{statement}
+use Rattle.parts.proofs.loss_reader.check_round.Tie as tie
 
 abbrev Inv-loop : tie.InvT-loop
 Inv-loop bytes seats at₀ sender₀ at sender =

@@ -7,12 +7,12 @@ use Rattle.record.specs.declared.header.Header.{Header}
 use Rattle.record.specs.declared.edits.Edit.{Edit}
 use Rattle.record.specs.Taking.{Taken, value, refused}
 use Rattle.numbers.specs.Cursors.{cursorAt}
-use Rattle.checking.specs.declared.answers.HeaderRead.{HeaderRead}
-use Rattle.checking.specs.declared.answers.HeaderRead.the-variants.{Header as HeaderFound, Refused as HeaderRefused}
-use Rattle.checking.specs.declared.answers.Passed.{Passed}
-use Rattle.checking.specs.declared.answers.Passed.the-variants.{To, Refused as PassedRefused}
-use Rattle.checking.specs.declared.answers.EditRead.{EditRead}
-use Rattle.checking.specs.declared.answers.EditRead.the-variants.{Edit as EditFound, Refused as EditRefused}
+use Rattle.parts.specs.declared.answers.HeaderRead.{HeaderRead}
+use Rattle.parts.specs.declared.answers.HeaderRead.the-variants.{Header as HeaderFound, Refused as HeaderRefused}
+use Rattle.parts.specs.declared.answers.Passed.{Passed}
+use Rattle.parts.specs.declared.answers.Passed.the-variants.{To, Refused as PassedRefused}
+use Rattle.parts.specs.declared.answers.EditRead.{EditRead}
+use Rattle.parts.specs.declared.answers.EditRead.the-variants.{Edit as EditFound, Refused as EditRefused}
 
 unfoldable pub headerIn : List ℕ → Taken Header → HeaderRead
 headerIn bytes (value h rest) = HeaderFound h (cursorAt bytes rest)

@@ -12,15 +12,15 @@ use Rattle.farm.specs.declared.places.Seat.{Seat}
 use Rattle.farm.specs.declared.refusals.Refusal.{Refusal}
 use Rattle.numbers.specs.declared.read.Cursor.{Cursor}
 use Rattle.numbers.specs.declared.read.Number.the-variants.{Value}
-use Rattle.checking.specs.declared.answers.Passed.the-variants.{To, Refused as PassedRefused}
+use Rattle.parts.specs.declared.answers.Passed.the-variants.{To, Refused as PassedRefused}
 use Rattle.record.specs.Taking.{value, refused, _>>=_}
 use Rattle.record.specs.Losses.{firstSeat, seatAfter, takeSet, takeRound, takeRounds}
 use Rattle.numbers.specs.Cursors.{numberIn}
-use Rattle.checking.specs.Parts.{passedIn}
+use Rattle.parts.specs.Parts.{passedIn}
 use Rattle.record.proofs.TakingLaws.{tail-trans, tail-of-drop}
 use Rattle.record.proofs.LossLaws.{set-tail, round-tail}
 use Rattle.numbers.proofs.CursorLaws.{cursor-drop, Placed, number-in-value}
-use Rattle.checking.proofs.PassedLaws.{passed-was, passed-mapped}
+use Rattle.parts.proofs.PassedLaws.{passed-was, passed-mapped}
 
 -- ════ Rounds, as far as they are only looked through ════
 

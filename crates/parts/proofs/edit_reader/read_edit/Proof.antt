@@ -1,11 +1,11 @@
--- `checking::edit_reader::read_edit` meets its contract: the four fields stand one after the other, and the first refusal is the edit's.
+-- `parts::edit_reader::read_edit` meets its contract: the four fields stand one after the other, and the first refusal is the edit's.
 -- Assumes nothing.
-use Rattle.checking.specs.declared.answers.EditRead.the-variants.{Edit as EditFound}
+use Rattle.parts.specs.declared.answers.EditRead.the-variants.{Edit as EditFound}
 use mir.ValLaws.{toZ-ofZ}
 use mir.Syntax.{w16}
 use lib.IntN.{ℤ}
 use Rattle.numbers.proofs.CursorLaws.{Field, field-was, field-refused, cursor-drop}
-use Rattle.checking.specs.Parts.{editIn}
+use Rattle.parts.specs.Parts.{editIn}
 use Rattle.record.specs.Edits.{takeEdit}
 use Rattle.record.specs.Taking.{_>>=_}
 use denote.Ref.{now}
@@ -13,8 +13,8 @@ use native.Mathlib.Omega.{arith}
 use Prim.Native.Nat.{_-_}
 use mathlib.Core.Path.{_∙_, ap}
 use borrow.Author.Needs.{needs}
-use Rattle.checking.proofs.edit_reader.read_edit.Statement.{statement}
-use Rattle.checking.proofs.edit_reader.read_edit.Tie as tie
+use Rattle.parts.proofs.edit_reader.read_edit.Statement.{statement}
+use Rattle.parts.proofs.edit_reader.read_edit.Tie as tie
 
 seat-was : (c : tie.After-known-told)
     → Field 0 (c .before .before .before .before .before .args .seats - 1) (now (c .before .before .before .before .before .args .bytes)) (c .before .before .before .before .before .args .from .at) (c .before .s .given .0 .0) (c .before .s .given .0 .1 .0 .at)

@@ -1,15 +1,15 @@
--- `checking::header_reader::read_header` meets its contract: the four fields stand one after the other, and the first refusal is the header's.
+-- `parts::header_reader::read_header` meets its contract: the four fields stand one after the other, and the first refusal is the header's.
 -- Assumes nothing.
 use Rattle.numbers.proofs.CursorLaws.{Field, field-was, field-refused, cursor-drop}
-use Rattle.checking.specs.Parts.{headerIn}
+use Rattle.parts.specs.Parts.{headerIn}
 use Rattle.record.specs.Header.{takeHeader}
 use Rattle.record.specs.Taking.{_>>=_}
 use denote.Ref.{now}
 use native.Mathlib.Omega.{arith}
 use Prim.Native.Nat.{_-_}
 use borrow.Author.Needs.{needs}
-use Rattle.checking.proofs.header_reader.read_header.Statement.{statement}
-use Rattle.checking.proofs.header_reader.read_header.Tie as tie
+use Rattle.parts.proofs.header_reader.read_header.Statement.{statement}
+use Rattle.parts.proofs.header_reader.read_header.Tie as tie
 
 n-was : (c : tie.After-known-told) → Field 2 7 (now (c .before .before .before .before .before .args .bytes)) 0 (c .before .n .given .0 .0) (c .before .n .given .0 .1 .0 .at)
 n-was c = field-was 2 7 _ _ _ _ _ (c .before .before .before .read-within .ensures) (c .before .n .given .1)

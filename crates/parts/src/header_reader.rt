@@ -12,7 +12,7 @@ use record::header::Header;
 ghost use mathlib.Core.Path.{_≡_};
 ghost use Rattle.farm.specs.Limits.{limits};
 ghost use Rattle.record.specs.Header.{takeHeader};
-ghost use Rattle.checking.specs.Parts.{headerIn};
+ghost use Rattle.parts.specs.Parts.{headerIn};
 
 pub fn read_header(bytes: &[u8]) -> HeaderRead
     ensures { λ r. ⌜ r ≡ headerIn (now (bytes .entry)) (takeHeader limits (now (bytes .entry))) ⌝ }

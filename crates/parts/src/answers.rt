@@ -4,7 +4,7 @@ use numbers::read::Cursor;
 use record::edits::Edit;
 use record::header::Header;
 ghost use mathlib.Core.Path.{_≡_};
-ghost use Rattle.checking.specs.Parts.{passedRefusalIn, headerRefusalIn, editRefusalIn};
+ghost use Rattle.parts.specs.Parts.{passedRefusalIn, headerRefusalIn, editRefusalIn};
 
 // A part of the record that was looked through, and where what follows it begins.
 pub enum Passed {

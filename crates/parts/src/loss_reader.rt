@@ -15,7 +15,7 @@ ghost use lib.ListN.{length, drop};
 ghost use Rattle.farm.specs.Limits.{limits};
 ghost use Rattle.record.specs.Losses.{firstSeat, takeSet, takeRound, takeRounds};
 ghost use Rattle.numbers.specs.Cursors.{numberIn};
-ghost use Rattle.checking.specs.Parts.{passedIn};
+ghost use Rattle.parts.specs.Parts.{passedIn};
 
 // The loss set of a sender. The set is tested when its number was taken.
 pub fn read_set(bytes: &[u8], from: Cursor, seats: u8, sender: Seat) -> Number

@@ -12,18 +12,18 @@ use Rattle.farm.specs.declared.refusals.Refusal.the-variants.{BadOrder}
 use Rattle.record.specs.declared.edits.Edit.{Edit}
 use Rattle.record.specs.declared.edits.Before.{Before}
 use Rattle.record.specs.declared.edits.Before.the-variants.{This}
-use Rattle.checking.specs.declared.answers.EditRead.{EditRead}
-use Rattle.checking.specs.declared.answers.EditRead.the-variants.{Edit as EditFound, Refused as EditRefused}
+use Rattle.parts.specs.declared.answers.EditRead.{EditRead}
+use Rattle.parts.specs.declared.answers.EditRead.the-variants.{Edit as EditFound, Refused as EditRefused}
 use Rattle.numbers.specs.declared.read.Cursor.{Cursor}
-use Rattle.checking.specs.declared.answers.Passed.the-variants.{To, Refused as PassedRefused}
+use Rattle.parts.specs.declared.answers.Passed.the-variants.{To, Refused as PassedRefused}
 use Rattle.record.specs.Taking.{Taken, value, refused, _>>=_, when}
 use Rattle.record.specs.Edits.{follows, takeEdit, takeEdits}
 use Rattle.numbers.specs.Cursors.{cursorAt}
-use Rattle.checking.specs.Parts.{editIn, editRefusalIn, passedIn}
+use Rattle.parts.specs.Parts.{editIn, editRefusalIn, passedIn}
 use Rattle.record.proofs.TakingLaws.{Tail, tail-trans, tail-of-drop}
 use Rattle.record.proofs.EditLaws.{edit-tail}
 use Rattle.numbers.proofs.CursorLaws.{cursor-drop, Placed, placed}
-use Rattle.checking.proofs.PassedLaws.{passed-mapped}
+use Rattle.parts.proofs.PassedLaws.{passed-mapped}
 
 -- ════ Edits, as far as they are only looked through ════
 

@@ -1,8 +1,8 @@
--- `checking::loss_reader::check_losses` meets its contract. The loop's invariant: all rounds end as what is left of them does.
+-- `parts::loss_reader::check_losses` meets its contract. The loop's invariant: all rounds end as what is left of them does.
 -- Assumes nothing.
-use Rattle.checking.proofs.LossSteps.{round-was, rounds-on, rounds-stop, rounds-end}
-use Rattle.checking.proofs.PassedLaws.{passed-was-refused, passed-refusal-passed}
-use Rattle.checking.specs.Parts.{passedIn}
+use Rattle.parts.proofs.LossSteps.{round-was, rounds-on, rounds-stop, rounds-end}
+use Rattle.parts.proofs.PassedLaws.{passed-was-refused, passed-refusal-passed}
+use Rattle.parts.specs.Parts.{passedIn}
 use Rattle.record.specs.Losses.{takeRounds}
 use Rattle.farm.specs.Limits.{limits}
 use denote.Ref.{now}
@@ -12,8 +12,8 @@ use native.Mathlib.Omega.{arith}
 use native.Mathlib.Nat.{sub-zero}
 use Prim.Native.Nat.{_-_, _≤_}
 use mathlib.Core.Path.{_≡_, sym, _∙_}
-use Rattle.checking.proofs.loss_reader.check_losses.Statement.{statement}
-use Rattle.checking.proofs.loss_reader.check_losses.Tie as tie
+use Rattle.parts.proofs.loss_reader.check_losses.Statement.{statement}
+use Rattle.parts.proofs.loss_reader.check_losses.Tie as tie
 
 abbrev Inv-loop : tie.InvT-loop
 Inv-loop bytes seats rounds at₀ round₀ at round =

@@ -1,4 +1,4 @@
--- `checking::loss_reader::read_set` meets its contract: a refusal of the number goes up unchanged, and then the set is tested.
+-- `parts::loss_reader::read_set` meets its contract: a refusal of the number goes up unchanged, and then the set is tested.
 -- Assumes nothing.
 use Rattle.numbers.proofs.CursorLaws.{number-refused, number-value, number-was, number-was-refused, refusal-passed}
 use Rattle.record.proofs.LossLaws.{set-refused, set-tested}
@@ -9,8 +9,8 @@ use denote.Ref.{now}
 use mathlib.Core.Bool.{true, false}
 use mathlib.Core.Path.{sym, _∙_}
 use borrow.Author.Needs.{needs}
-use Rattle.checking.proofs.loss_reader.read_set.Statement.{statement}
-use Rattle.checking.proofs.loss_reader.read_set.Tie as tie
+use Rattle.parts.proofs.loss_reader.read_set.Statement.{statement}
+use Rattle.parts.proofs.loss_reader.read_set.Tie as tie
 
 read-number-requires : tie.Need-read-number-requires
 read-number-requires c κs = search needs

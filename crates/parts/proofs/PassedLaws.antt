@@ -10,9 +10,9 @@ use Rattle.record.proofs.TakingLaws.{Tail}
 use Rattle.numbers.specs.declared.read.Cursor.{Cursor}
 use Rattle.numbers.specs.Cursors.{cursorAt}
 use Rattle.numbers.proofs.CursorLaws.{Placed, placed}
-use Rattle.checking.specs.declared.answers.Passed.{Passed}
-use Rattle.checking.specs.declared.answers.Passed.the-variants.{To, Refused as PassedRefused}
-use Rattle.checking.specs.Parts.{passedIn, passedRefusalIn}
+use Rattle.parts.specs.declared.answers.Passed.{Passed}
+use Rattle.parts.specs.declared.answers.Passed.the-variants.{To, Refused as PassedRefused}
+use Rattle.parts.specs.Parts.{passedIn, passedRefusalIn}
 
 pub passed-was-refused : {A : Type 0} (bytes : List ℕ) (t : Taken A) (r : Refusal) → passedIn bytes t ≡ PassedRefused r → t ≡ refused r
 unfolding passedIn

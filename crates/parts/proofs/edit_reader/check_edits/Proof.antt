@@ -1,7 +1,7 @@
--- `checking::edit_reader::check_edits` meets its contract. The loop's invariant: all edits end as what is left of them does, after the last one read.
+-- `parts::edit_reader::check_edits` meets its contract. The loop's invariant: all edits end as what is left of them does, after the last one read.
 -- Assumes nothing.
-use Rattle.checking.proofs.EditSteps.{edit-was, edit-was-refused, edits-on, edits-stop, edits-disorder, edits-end}
-use Rattle.checking.specs.Parts.{passedIn}
+use Rattle.parts.proofs.EditSteps.{edit-was, edit-was-refused, edits-on, edits-stop, edits-disorder, edits-end}
+use Rattle.parts.specs.Parts.{passedIn}
 use Rattle.record.specs.Edits.{takeEdits}
 use Rattle.record.specs.declared.edits.Before.the-variants.{Nothing}
 use Rattle.farm.specs.Limits.{limits}
@@ -13,8 +13,8 @@ use native.Mathlib.Omega.{arith}
 use native.Mathlib.Nat.{sub-zero}
 use Prim.Native.Nat.{_-_, _≤_}
 use mathlib.Core.Path.{_≡_, sym, _∙_}
-use Rattle.checking.proofs.edit_reader.check_edits.Statement.{statement}
-use Rattle.checking.proofs.edit_reader.check_edits.Tie as tie
+use Rattle.parts.proofs.edit_reader.check_edits.Statement.{statement}
+use Rattle.parts.proofs.edit_reader.check_edits.Tie as tie
 
 abbrev Inv-loop : tie.InvT-loop
 Inv-loop bytes seats rounds edits at₀ before₀ done₀ at before done =

@@ -1,0 +1,4 @@
+pub mod PassedLaws
+pub mod LossSteps
+pub mod EditSteps
+pub mod CompleteLaws
