@@ -2,13 +2,12 @@
 -- Assumes nothing.
 use mathlib.Core.Path.{_≡_, refl, sym, _∙_, ap}
 use mathlib.Core.Bool.{Bool, true, false, _&&_}
-use mathlib.Core.List.{List, [], _∷_, _++_}
-use Prim.Native.Nat.{ℕ, zero, suc, _+_, _-_, _*_, _^_, _≤_, _<_}
+use mathlib.Core.List.{List, [], _∷_}
+use Prim.Native.Nat.{ℕ, _+_, _*_, _^_, _≤_, _<_}
 use native.Mathlib.Omega.{arith}
 use lib.Dec.{eqb}
 use lib.IntN.{ℤ, pos, negsuc}
-use lib.ListN.{length, take, getD}
-use lib.Seq.{length-take-le, take-suc}
+use lib.ListN.{length}
 use mir.Syntax.{w16}
 use mir.Val.{SFits}
 use borrow.Author.Tests.{le-ltb, lt-ltb, ltb-true, eqb-true}
@@ -22,19 +21,18 @@ use Rattle.record.specs.Changes.{mapped}
 use Rattle.record.specs.Edits.{follows}
 use Rattle.record.specs.Faults.{lastOf}
 use Rattle.record.specs.Good.{goodHeader, goodEdit, goodRecord}
-use Rattle.record.specs.Tables.{over, editOf, editsFrom}
+use Rattle.record.specs.Tables.{over, editsFrom}
 use Rattle.record.specs.declared.edits.Before.{Before}
-use Rattle.record.specs.declared.edits.Before.the-variants.{Nothing, This}
+use Rattle.record.specs.declared.edits.Before.the-variants.{Nothing}
 use Rattle.record.specs.declared.edits.Edit.{Edit}
 use Rattle.record.proofs.GoodLaws.{header-facts, header-from-facts, edit-facts, edit-from-facts, record-facts}
 use Rattle.live.specs.declared.answers.Done.{Done}
 use Rattle.live.specs.declared.answers.Done.the-variants.{Accepted, Refused}
 use Rattle.live_table.specs.declared.table.Table.{Table}
 use Rattle.live.specs.Answers.{doneOf, Ends}
-use Rattle.live.specs.Calls.{Call, opening, round, edit, emptyHeader, presentEdit, round11, round10, round4, edit3, edit12, edit5, testsOf, firstFailing, Held, added, keptOr, answerTo, tableAfter}
+use Rattle.live.specs.Calls.{Call, opening, round, edit, emptyHeader, presentEdit, round11, round10, round4, edit3, edit12, edit5, testsOf, firstFailing, added, keptOr, answerTo, tableAfter}
 use Rattle.live_table.specs.Used.{usedRecord, tableOf}
 use Rattle.live_table.proofs.SoundLaws.{not-so, sets-fit}
-use Rattle.live_table.proofs.ListLaws.{edits-from-append}
 use Rattle.live.proofs.GoodSteps.{all-pass}
 
 -- ════ An opening ════
@@ -89,36 +87,6 @@ pub mapped-fits : (z : ℤ) → SFits w16 z → mapped z ≤ 65535
 unfolding mapped
 mapped-fits (pos d) f = let s : d < 2 ^ 15 = f .sfits in omega arith
 mapped-fits (negsuc d) f = let s : d < 2 ^ 15 = f .sfits in omega arith
-
-last-append : (before : Before) (edits : List Edit) (e : Edit) → lastOf before (edits ++ (e ∷ [])) ≡ This e
-unfolding lastOf
-last-append before [] e = refl
-last-append before (x ∷ edits) e = last-append (This x) edits e
-
-module _ (who when where′ : List ℕ) (heights : List ℤ) where
-  pub last-of-none : Nothing ≡ lastOf Nothing (editsFrom (take 0 who) (take 0 when) (take 0 where′) (take 0 heights))
-  unfolding lastOf editsFrom
-  last-of-none = refl
-
-  pub last-of-some : (held : ℕ) → 0 < held → Held held who when where′ heights
-      → This (editOf (getD who (held - 1) 0) (getD when (held - 1) 0) (getD where′ (held - 1) 0) (getD heights (held - 1) (pos 0)))
-      ≡ lastOf Nothing (editsFrom (take held who) (take held when) (take held where′) (take held heights))
-  last-of-some zero z h = absurd (omega arith)
-  last-of-some (suc k) z h =
-      let one : suc k - 1 ≡ k = omega arith in
-      let a = length-take-le k who (omega arith) in
-      let b = length-take-le k when (omega arith) in
-      let c = length-take-le k where′ (omega arith) in
-      let d = length-take-le k heights (omega arith) in
-      rw (
-        one,
-        take-suc who k 0 (omega arith),
-        take-suc when k 0 (omega arith),
-        take-suc where′ k 0 (omega arith),
-        take-suc heights k (pos 0) (omega arith),
-        edits-from-append (take k who) (take k when) (take k where′) (take k heights) (getD who k 0) (getD when k 0) (getD where′ k 0) (getD heights k (pos 0)) (b ∙ sym a) (c ∙ sym a) (d ∙ sym a),
-        last-append Nothing (editsFrom (take k who) (take k when) (take k where′) (take k heights)) (editOf (getD who k 0) (getD when k 0) (getD where′ k 0) (getD heights k (pos 0))),
-      )
 
 module _ (seat : Seat) (cell : ℕ) (change : ℤ) (table : Table) where
   pub edit-bad : goodRecord limits (usedRecord table) ≡ false → answerTo (edit seat cell change) table ≡ faulty BadTable

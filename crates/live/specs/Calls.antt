@@ -1,7 +1,7 @@
 -- The live calls: what each adds to the record, what it is refused for, and what it leaves in the table.
 use mathlib.Core.Bool.{Bool}
 use mathlib.Core.List.{List, [], _∷_, _++_}
-use Prim.Native.Nat.{ℕ, _+_, _*_, _≤_}
+use Prim.Native.Nat.{ℕ, _+_, _*_}
 use lib.Dec.{eqb, ltb}
 use lib.IntN.{ℤ}
 use lib.ListN.{length}
@@ -110,13 +110,6 @@ firstFailing [] = accepted
 firstFailing ((passes, refusal) ∷ tests) = unless passes refusal (firstFailing tests)
 
 -- ════ On the table ════
-
--- Four lists that have so many entries at least.
-pub record Held (held : ℕ) (who when where′ : List ℕ) (heights : List ℤ) : Type 0 where
-  pub editors : held ≤ length who
-  pub times : held ≤ length when
-  pub cells : held ≤ length where′
-  pub changes : held ≤ length heights
 
 -- An accepted opening sets the four numbers and touches nothing else.
 abbrev pub openedTable : (seats bound : ℕ) → Table → Table

@@ -7,21 +7,17 @@ use farm::places::Seat;
 use farm::places::Time;
 use farm::refusals::Refusal;
 use judging::lists::judge;
+use live_entries::lists::last_held;
 use live_table::sound::judge_table;
 use record::answers::Judged;
-use record::edits::Before;
 use record::edits::Edit;
 use record::edits::comes_after;
 ghost use mathlib.Core.Path.{_≡_};
 ghost use mathlib.Core.List.{[]};
-ghost use lib.ListN.{take};
 ghost use Rattle.farm.specs.Limits.{limits};
 ghost use Rattle.record.specs.Writing.{listsOf, judgedLists};
 ghost use Rattle.record.specs.Answers.{judgedIn};
-ghost use Rattle.record.specs.Faults.{lastOf};
-ghost use Rattle.record.specs.Tables.{editsFrom};
-ghost use Rattle.record.specs.declared.edits.Before.the-variants.{Nothing};
-ghost use Rattle.live.specs.Calls.{round, edit, Held, answerTo};
+ghost use Rattle.live.specs.Calls.{round, edit, answerTo};
 ghost use Rattle.live.specs.Answers.{doneOf};
 ghost use Rattle.live_table.specs.Used.{tableOf};
 
@@ -81,29 +77,6 @@ pub fn answer_round<'a, 'b>(
         Judged::Accepted => Done::Accepted,
         Judged::Refused(refusal) => Done::Refused(refusal),
     }
-}
-
-// The last of so many edits, which the next one has to come after.
-fn last_held<'a>(
-    editors: &'a [u8],
-    times: &'a [u16],
-    cells: &'a [u32],
-    changes: &'a [i16],
-    held: usize,
-) -> Before
-    requires { ⌜ Held held (now editors) (now times) (now cells) (now changes) ⌝ }
-    ensures { λ r. ⌜ r ≡ lastOf Nothing (editsFrom (take held (now (editors .entry))) (take held (now (times .entry))) (take held (now (cells .entry))) (take held (now (changes .entry)))) ⌝ }
-{
-    if held == 0 {
-        return Before::Nothing;
-    }
-    let at = held - 1;
-    Before::This(Edit {
-        seat: Seat(editors[at]),
-        time: Time(times[at]),
-        cell: cells[at],
-        change: changes[at],
-    })
 }
 
 // An edit: 19, 3, 12, 5. It is placed at the present time.

@@ -6,13 +6,10 @@ use farm::limits::FEWEST_SEATS;
 use farm::limits::MOST_SEATS;
 use farm::places::Seat;
 use farm::refusals::Refusal;
-ghost use mathlib.Core.Path.{_≡_};
-ghost use mathlib.Core.List.{[], _∷_};
-ghost use Prim.Native.Nat.{_+_, _≤_};
-ghost use lib.ListN.{length};
-ghost use Rattle.record.specs.Tables.{over};
+use live_entries::lists::put_edit;
+use live_entries::lists::put_sets;
 ghost use Rattle.live_table.specs.Used.{tableOf};
-ghost use Rattle.live.specs.Calls.{opening, round, edit, Held};
+ghost use Rattle.live.specs.Calls.{opening, round, edit};
 ghost use Rattle.live.specs.Answers.{Ends, EndsWhole};
 
 // An opening: 3, or a record with no rounds and no edits. It takes the table's numbers alone: no array is touched.
@@ -40,18 +37,6 @@ pub fn open_into(
     *rounds = 0;
     *edits = 0;
     Done::Accepted
-}
-
-// Entries from a place on; those before and after them stay.
-fn put_sets(losses: &mut [u16], at: usize, sets: &[u16])
-    requires { ⌜ at + length (now sets) ≤ length (now losses) ⌝ }
-    ensures { λ _. ⌜ now (losses .exit) ≡ over at (now (sets .entry)) (now (losses .entry)) ⌝ }
-{
-    let mut i: usize = 0;
-    while i < sets.len() {
-        losses[at + i] = sets[i];
-        i += 1;
-    }
 }
 
 // A round: 19, 11, 10, 4. It goes behind the ones held.
@@ -90,31 +75,6 @@ pub fn round_into<'a>(
     put_sets(losses, seats as usize * done as usize, sets);
     *rounds = done + 1;
     Done::Accepted
-}
-
-// One entry in each of the four lists of edits; the others stay.
-fn put_edit(
-    editors: &mut [u8],
-    times: &mut [u16],
-    cells: &mut [u32],
-    changes: &mut [i16],
-    at: usize,
-    seat: Seat,
-    time: u16,
-    cell: u32,
-    change: i16,
-)
-    requires { ⌜ Held (at + 1) (now editors) (now times) (now cells) (now changes) ⌝ }
-    ensures { λ _.
-        ⌜ (now (editors .exit) ≡ over at (seat .0 ∷ []) (now (editors .entry)))
-        × (now (times .exit) ≡ over at (time ∷ []) (now (times .entry)))
-        × (now (cells .exit) ≡ over at (cell ∷ []) (now (cells .entry)))
-        × (now (changes .exit) ≡ over at (change ∷ []) (now (changes .entry))) ⌝ }
-{
-    editors[at] = seat.0;
-    times[at] = time;
-    cells[at] = cell;
-    changes[at] = change;
 }
 
 // An edit: 19, 3, 12, 5. It goes behind the ones held, at the present time.

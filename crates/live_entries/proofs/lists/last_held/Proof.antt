@@ -1,4 +1,4 @@
--- `live::answering::last_held` meets its contract: none of no edits, and else the one at the last place.
+-- `live_entries::lists::last_held` meets its contract: none of no edits, and else the one at the last place.
 -- Assumes nothing.
 use borrow.Author.Needs.{needs}
 use mathlib.Core.Path.{_∙_, ap}
@@ -6,9 +6,9 @@ use native.Mathlib.Omega.{arith}
 use denote.Ref.{now}
 use Rattle.record.specs.declared.edits.Before.the-variants.{This}
 use Rattle.judging.proofs.JudgingLaws.{change-kept}
-use Rattle.live.proofs.StepLaws.{last-of-none, last-of-some}
-use Rattle.live.proofs.answering.last_held.Statement.{statement}
-use Rattle.live.proofs.answering.last_held.Tie as tie
+use Rattle.live_entries.proofs.LastLaws.{last-of-none, last-of-some}
+use Rattle.live_entries.proofs.lists.last_held.Statement.{statement}
+use Rattle.live_entries.proofs.lists.last_held.Tie as tie
 
 returns : tie.Need-returns
 returns c =

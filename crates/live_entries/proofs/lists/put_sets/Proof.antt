@@ -1,4 +1,4 @@
--- `live::places::put_sets` meets its contract. The loop's invariant: the sets from the i-th on, put over the present list, make it what it is to be.
+-- `live_entries::lists::put_sets` meets its contract. The loop's invariant: the sets from the i-th on, put over the present list, make it what it is to be.
 -- Assumes nothing.
 use mathlib.Core.Path.{_≡_, refl, sym, _∙_, ap}
 use Prim.Native.Nat.{ℕ, _+_, _-_, _≤_}
@@ -7,8 +7,8 @@ use native.Mathlib.Omega.{arith}
 use lib.ListN.{length, drop, length-set}
 use Rattle.record.specs.Tables.{over}
 use Rattle.live_table.proofs.ListLaws.{over-turn, over-done}
-use Rattle.live.proofs.places.put_sets.Statement.{statement}
-use Rattle.live.proofs.places.put_sets.Tie as tie
+use Rattle.live_entries.proofs.lists.put_sets.Statement.{statement}
+use Rattle.live_entries.proofs.lists.put_sets.Tie as tie
 
 abbrev Inv-loop : tie.InvT-loop
 Inv-loop losses₀ at sets i₀ losses i =

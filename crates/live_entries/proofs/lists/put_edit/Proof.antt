@@ -1,4 +1,4 @@
--- `live::places::put_edit` meets its contract: one entry put into each of four lists.
+-- `live_entries::lists::put_edit` meets its contract: one entry put into each of four lists.
 -- Assumes nothing.
 use borrow.Author.Needs.{needs}
 use native.Mathlib.Omega.{arith}
@@ -9,8 +9,8 @@ use mir.Syntax.{w16}
 use mir.ValLaws.{toZ-ofZ}
 use denote.Ref.{now}
 use Rattle.live_table.proofs.ListLaws.{over-one}
-use Rattle.live.proofs.places.put_edit.Statement.{statement}
-use Rattle.live.proofs.places.put_edit.Tie as tie
+use Rattle.live_entries.proofs.lists.put_edit.Statement.{statement}
+use Rattle.live_entries.proofs.lists.put_edit.Tie as tie
 
 returns : tie.Need-returns
 returns c =
