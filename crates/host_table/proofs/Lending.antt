@@ -16,11 +16,11 @@ use prog.Wp.{Heap, Closed}
 use ghost.Atoms.{Atoms}
 use contract.Running.{GhostRules, Running, givenOf, tables, tablesOf}
 use types.Kit.{Given}
-use denote.Array.{Array, arrayVal, array-tells, array-lawful, array-makes}
+use denote.Array.{Array, arrayVal}
 use denote.Laws.{Is}
 use denote.Memory.{pointee}
-use denote.Plain.{UInt, uint-tells, uint-lawful, uint-makes}
-use denote.Signed.{SInt, sint-tells, sint-lawful, sint-makes}
+use denote.Plain.{UInt}
+use denote.Signed.{SInt}
 use denote.RattleType.{RattleType}
 use denote.Signature.{Slot}
 use denote.Struct.Laws as LL
@@ -32,47 +32,12 @@ use Rattle.live_table.proofs.table.Table as Table
 use Rattle.live_table.proofs.table.Table.Laws as Table′
 use Rattle.walks.proofs.Answered.{Answer}
 use Rattle.walks.proofs.Changed.{Changer}
+use Rattle.walks.proofs.Fields.{number, numbers, integers}
 use Rattle.walks.proofs.Handed.{Handed, plus, ats}
-use Rattle.walks.proofs.Loans.{How, Part, Parts, Split, Ends, tys-of, picks-of}
+use Rattle.walks.proofs.Loans.{How, Parts, Split, Ends, tys-of, picks-of}
 use Rattle.walks.proofs.Lent as lent
 use Rattle.walks.proofs.Lent.{Doer}
 use Rattle.walks.proofs.Picks.{picking}
-
-abbrev pub number : (w : Width) (k d : ℕ) → Part
-number w k d = record {
-  F = UInt w;
-  k = k;
-  d = d;
-  spell = vint w;
-  tells = uint-tells w;
-  one = refl;
-  typed = λ M 𝓤 H A W x v is. uint-lawful 𝓤 H A W w .typed x (v ∷ []) is .0;
-  makes = λ M 𝓤 H A W. uint-makes 𝓤 H A W w;
-}
-
-abbrev pub numbers : (w : Width) (n k d : ℕ) → Part
-numbers w n k d = record {
-  F = Array (UInt w) n;
-  k = k;
-  d = d;
-  spell = λ xs. arrayVal (map (vint w) xs);
-  tells = array-tells (UInt w) (λ y. vint w y ∷ []) (uint-tells w) n;
-  one = refl;
-  typed = λ M 𝓤 H A W x v is. array-lawful 𝓤 H A W (UInt w) (uint-lawful 𝓤 H A W w) n .typed x (v ∷ []) is .0;
-  makes = λ M 𝓤 H A W. array-makes 𝓤 H A W (UInt w) (uint-makes 𝓤 H A W w) n;
-}
-
-abbrev pub integers : (w : Width) (n k d : ℕ) → Part
-integers w n k d = record {
-  F = Array (SInt w) n;
-  k = k;
-  d = d;
-  spell = λ xs. arrayVal (map (λ z. vint w (ofZ w z)) xs);
-  tells = array-tells (SInt w) (λ z. vint w (ofZ w z) ∷ []) (sint-tells w) n;
-  one = refl;
-  typed = λ M 𝓤 H A W x v is. array-lawful 𝓤 H A W (SInt w) (sint-lawful 𝓤 H A W w) n .typed x (v ∷ []) is .0;
-  makes = λ M 𝓤 H A W. array-makes 𝓤 H A W (SInt w) (sint-makes 𝓤 H A W w) n;
-}
 
 abbrev pub parts : {m : ℕ} (seats bound rounds edits losses editors times cells changes : How m) → Parts m
 parts seats bound rounds edits losses editors times cells changes = (seats, number w8 0 0) ∷ (bound, number w8 1 1) ∷ (rounds, number w16 2 2) ∷ (edits, number w16 3 4) ∷ (losses, numbers w16 889 4 6) ∷ (editors, numbers w8 512 5 1784) ∷ (times, numbers w16 512 6 2296) ∷ (cells, numbers w32 512 7 3320) ∷ (changes, integers w16 512 8 5368) ∷ []

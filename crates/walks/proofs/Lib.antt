@@ -7,6 +7,7 @@ pub mod Slices
 pub mod Picks
 pub mod Picked
 pub mod Loans
+pub mod Fields
 pub mod Lent
 pub mod Parameters
 pub mod Answered
