@@ -65,9 +65,9 @@ use Rattle.live_questions.proofs.asks.view as table-view
 use Rattle.live_questions.proofs.asks.core as table-core
 use Rattle.live_questions.proofs.asks.marks as table-marks
 use Rattle.live_questions.proofs.asks.write_out as write-out
-use Rattle.live.proofs.calls.open as open′
-use Rattle.live.proofs.calls.add_round as add-round
-use Rattle.live.proofs.calls.add_edit as add-edit
+use Rattle.live_calls.proofs.calls.open as open′
+use Rattle.live_calls.proofs.calls.add_round as add-round
+use Rattle.live_calls.proofs.calls.add_edit as add-edit
 use Rattle.conditions.specs.Order.{askedNumber, givenNumber, standingNumber}
 
 -- At every model and from any arguments: the contract asks nothing, and whatever it allows as result and as parameters at exit has

@@ -15,7 +15,7 @@ use Rattle.live.specs.declared.answers.Done.the-variants.{Accepted, Refused}
 use Rattle.live.specs.Answers.{doneOf}
 use Rattle.live.specs.Calls.{Call, opening, round, edit, answerTo}
 use Rattle.live.specs.Runs as library
-use Rattle.live.proofs.ContractRuns.{Ensures}
+use Rattle.live_calls.proofs.ContractRuns.{Ensures}
 use Rattle.host.specs.Numbers.{seatNamed}
 use Rattle.host.specs.Results.{doneNumber}
 use Rattle.host_table.specs.Codes.{EndsWith}

@@ -2,6 +2,4 @@
 // call tests it before it adds to it.
 mod answering; // answering.rt: the tests of a round and of an edit, in their order
 pub mod answers; // answers.rt: what a call answers
-pub mod calls; // calls.rt: the calls on a `&mut` to the table
 pub mod places; // places.rt: each call on the lent parts of a table, judged and stored in place
-pub mod steps; // steps.rt: each call as a step by value

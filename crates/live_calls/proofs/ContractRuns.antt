@@ -13,11 +13,11 @@ use denote.Ref.{now}
 use denote.Triple.Entry.{Args, Res}
 use denote.Triple.Clauses.{Ended, AtExit}
 use Rattle.farm.proofs.Complete.{Contract}
 use Rattle.live.specs.Answers.{Ends}
 use Rattle.live.specs.Calls.{opening, round, edit}
-use Rattle.live.proofs.calls.open as open′
-use Rattle.live.proofs.calls.add_round as add-round
-use Rattle.live.proofs.calls.add_edit as add-edit
+use Rattle.live_calls.proofs.calls.open as open′
+use Rattle.live_calls.proofs.calls.add_round as add-round
+use Rattle.live_calls.proofs.calls.add_edit as add-edit
 
 -- At every model, from any arguments: whatever the `ensures` allows as result and as parameters at exit has the property.
 abbrev pub Ensures : (T : Ended) → Contract T → ((κs : Lfts (T .signature .lifetimes)) → Args (T .signature) κs → Res (T .signature) κs → AtExit T κs → Type 0) → Type 2

@@ -1,13 +1,13 @@
 // Each call as a step that takes the table by value and hands it back beside the answer. A refusal hands
 // back the table as it came. A host that holds its table by value calls these.
-use crate::answers::Step;
-use crate::places::edit_into;
-use crate::places::open_into;
-use crate::places::round_into;
 use farm::places::Seat;
+use live::answers::Step;
+use live::places::edit_into;
+use live::places::open_into;
+use live::places::round_into;
 use live_table::table::Table;
 ghost use Rattle.live.specs.Calls.{opening, round, edit};
 ghost use Rattle.live.specs.Answers.{Ends};
 
 // An opening: 3.
 pub fn opened(table: Table, seats: u8, bound: u8) -> Step

@@ -6,13 +6,13 @@ use denote.Enum.Laws as LE
 use denote.Memory.{lone}
 use denote.Steps.{only}
 use denote.Struct.Laws as LL
 use Rattle.live.proofs.answers.Done as D
 use Rattle.live.proofs.answers.Done.Laws as D′
 use Rattle.live.proofs.answers.Step as S
 use Rattle.live.proofs.answers.Step.Laws as S′
 use Rattle.live_table.proofs.table.Table as T
 use Rattle.live_table.proofs.table.Table.Laws as T′
-use Rattle.live.proofs.Live.{Stepping}
+use Rattle.live_calls.proofs.Live.{Stepping}
 
 abbrev pub stepped : Stepping D.the-row S.the-row
 stepped M 𝓤 H A W = record {

@@ -1,9 +1,9 @@
--- `live::steps::with_edit` meets its contract: as the call on the table's parts.
+-- `live_calls::steps::with_edit` meets its contract: as the call on the table's parts.
 -- Assumes nothing.
 use mir.Syntax.{w16}
 use mir.ValLaws.{toZ-ofZ}
-use Rattle.live.proofs.steps.with_edit.Statement.{statement}
-use Rattle.live.proofs.steps.with_edit.Tie as tie
+use Rattle.live_calls.proofs.steps.with_edit.Statement.{statement}
+use Rattle.live_calls.proofs.steps.with_edit.Tie as tie
 
 returns : tie.Need-returns
 returns c =

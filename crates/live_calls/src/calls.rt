@@ -1,13 +1,13 @@
 // The calls on the host's table. Each is thin: it takes the table's value, calls the covered step, puts the
 // step's table back, and answers what the step answered.
-use crate::answers::Done;
 use crate::steps::opened;
 use crate::steps::with_edit;
 use crate::steps::with_round;
 use farm::places::Seat;
+use live::answers::Done;
 use live_table::table::Table;
 ghost use Rattle.live.specs.Calls.{opening, round, edit};
 ghost use Rattle.live.specs.Answers.{Ends};
 
 // Opens a table in any state for a new record: 3.
 pub fn open(table: &mut Table, seats: u8, bound: u8) -> Done
