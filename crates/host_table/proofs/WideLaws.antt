@@ -21,16 +21,15 @@ use Rattle.record.specs.Good.{goodHeader, goodEdit, goodRecord}
 use Rattle.record.specs.Writing.{Verdict, faulty, unless}
 use Rattle.record.proofs.GoodLaws.{header-facts, record-facts, edit-facts}
 use Rattle.live_table.specs.declared.table.Table.{Table}
-use Rattle.live_table.specs.Used.{usedRecord, tableReading}
+use Rattle.live_table.specs.Used.{usedRecord}
 use Rattle.live.specs.declared.answers.Done.{Done}
 use Rattle.live.specs.Answers.{Ends, doneOf}
 use Rattle.live.specs.Calls.{Call, opening, edit, presentEdit, emptyHeader, testsOf, firstFailing, keptOr, answerTo, tableAfter}
-use Rattle.live.proofs.Promises.{passes}
 use Rattle.host.specs.declared.numbers.SeatNumber.{SeatNumber}
 use Rattle.host.specs.Numbers.{atMost, seatNamed}
 use Rattle.host.specs.Results.{doneNumber}
 use Rattle.host.proofs.NumberLaws.{far-number, near-number}
-use Rattle.host.proofs.WideLaws.{Sound, Fits, header-wide}
+use Rattle.host.proofs.WideLaws.{Fits, header-wide}
 use Rattle.host_table.specs.Codes.{EndsWith, EditHanded}
 
 -- Calls that end alike.
@@ -41,11 +40,6 @@ pub record Alike (call call′ : Call) (table : Table) : Type 0 where
 pub ends-with : {call call′ : Call} {before after : Table} {answer : Done} {number : ℕ} → Alike call call′ before → Ends call′ before answer after → number ≡ doneNumber answer
     → EndsWith call before number after
 ends-with alike ends told = (told ∙ ap doneNumber (ends .0 ∙ ap doneOf (alike .answers)), ends .1 ∙ alike .tables)
-
--- ════ Questions ════
-
-pub table-sound : (table : Table) → Sound (tableReading table)
-table-sound table r e = ap (goodRecord limits) (passes table r e .1) ∙ passes table r e .0
 
 -- ════ Opening ════
 

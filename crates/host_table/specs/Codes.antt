@@ -5,20 +5,15 @@ use mathlib.Core.List.{List}
 use Prim.Native.Nat.{ℕ}
 use lib.Dec.{leb}
 use lib.IntN.{ℤ, pos}
-use lib.ListN.{length}
 use Rattle.farm.specs.Limits.{limits}
 use Rattle.farm.specs.declared.places.Seat.{Seat}
-use Rattle.record.specs.Answers.{writtenIn}
 use Rattle.record.specs.Changes.{mapped}
-use Rattle.record.specs.Record.{Reading}
-use Rattle.record.specs.Writing.{answered, bufferWith}
 use Rattle.live_table.specs.declared.table.Table.{Table}
 use Rattle.live.specs.Answers.{doneOf, headed}
 use Rattle.live.specs.Calls.{Call, answerTo, tableAfter}
 use Rattle.host.specs.declared.numbers.SeatNumber.{SeatNumber}
-use Rattle.host.specs.declared.results.LengthTold.{LengthTold}
 use Rattle.host.specs.Numbers.{atMost}
-use Rattle.host.specs.Results.{doneNumber, lengthTold}
+use Rattle.host.specs.Results.{doneNumber}
 
 -- As `live`'s `Ends`, with the answer as its number.
 abbrev pub EndsWith : Call → (before : Table) (number : ℕ) (after : Table) → Type 0
@@ -32,8 +27,3 @@ EndsWholeWith call n t R E number n′ t′ R′ E′ = (table : Table) → Ends
 pub record EditHanded (seat : SeatNumber) (change : ℤ) (handed : Seat) (given : ℤ) : Type 0 where
   pub whose : handed ≡ cond (leb (mapped change) (limits .largestMappedChange)) (record { 0 = atMost 255 (seat .0) }) (record { 0 = 255 })
   pub what : given ≡ cond (leb (mapped change) (limits .largestMappedChange)) change (pos 0)
-
--- What the record so far leaves: the result, and the buffer. A refusal leaves what was there.
-pub record RecordTold (reading : Reading) (buffer : List ℕ) (told : LengthTold) (after : List ℕ) : Type 0 where
-  pub answered : told ≡ lengthTold (writtenIn (answered limits reading (length buffer)))
-  pub left : after ≡ bufferWith limits reading buffer

@@ -1,11 +1,4 @@
 // The questions on the live table, and the record so far. Refusals: 19, then 8, 7, 9.
-use crate::lent::agreed_told;
-use crate::lent::core_told;
-use crate::lent::marks_told;
-use crate::lent::record_told;
-use crate::lent::seen_told;
-use crate::lent::standing_told;
-use crate::lent::view_told;
 use host::numbers::SeatNumber;
 use host::numbers::TimeNumber;
 use host::results::AgreedTold;
@@ -13,13 +6,20 @@ use host::results::LengthTold;
 use host::results::SeenTold;
 use host::results::StandingTold;
 use live_table::table::Table;
+use table_answers::lent::agreed_told;
+use table_answers::lent::core_told;
+use table_answers::lent::marks_told;
+use table_answers::lent::record_told;
+use table_answers::lent::seen_told;
+use table_answers::lent::standing_told;
+use table_answers::lent::view_told;
 ghost use mathlib.Core.Path.{_≡_};
 ghost use Rattle.questions.specs.Question.{viewAsked, coreAsked, marksAsked, loserAsked};
 ghost use Rattle.questions.specs.Answers.{seenAsked, agreedAsked, standingAnswer};
 ghost use Rattle.host.specs.Numbers.{seatNamed, timeNamed};
 ghost use Rattle.host.specs.Results.{FillsTold, seenTold, agreedTold, standingTold};
 ghost use Rattle.live_table.specs.Used.{tableReading};
-ghost use Rattle.host_table.specs.Codes.{RecordTold};
+ghost use Rattle.table_answers.specs.Told.{RecordTold};
 
 // What a seat has seen at a time.
 #[no_mangle]

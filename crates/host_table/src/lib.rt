@@ -3,4 +3,3 @@
 pub mod asks; // asks.rt: questions on the table, and the record so far
 pub mod calls; // calls.rt: the calls that change the table
 mod coded; // coded.rt: the calls on the parts of the table, with a number as the answer
-mod lent; // lent.rt: questions on the parts of the table, with a host's numbers and results

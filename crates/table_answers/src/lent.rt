@@ -25,7 +25,7 @@ ghost use Rattle.questions.specs.Answers.{seenAsked, agreedAsked, standingAnswe
 ghost use Rattle.host.specs.Numbers.{seatNamed, timeNamed};
 ghost use Rattle.host.specs.Results.{FillsTold, seenTold, agreedTold, standingTold};
 ghost use Rattle.live_table.specs.Used.{tableReading, tableOf};
-ghost use Rattle.host_table.specs.Codes.{RecordTold};
+ghost use Rattle.table_answers.specs.Told.{RecordTold};
 
 pub fn seen_told<'a>(
     losses: &'a [u16; 889],

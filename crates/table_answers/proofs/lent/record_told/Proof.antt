@@ -1,10 +1,10 @@
--- `host_table::lent::record_told` meets its contract, by the record written out of the table's parts.
+-- `table_answers::lent::record_told` meets its contract, by the record written out of the table's parts.
 -- Assumes nothing.
 use mathlib.Core.Path.{_∙_, ap}
 use Rattle.host.specs.Results.{lengthTold}
 use borrow.Author.Needs.{needs}
-use Rattle.host_table.proofs.lent.record_told.Statement.{statement}
-use Rattle.host_table.proofs.lent.record_told.Tie as tie
+use Rattle.table_answers.proofs.lent.record_told.Statement.{statement}
+use Rattle.table_answers.proofs.lent.record_told.Tie as tie
 
 returns : tie.Need-returns
 returns c = let put = c .before .before .before .write-from .ensures in record { answered = c .tell-length .ensures ∙ ap lengthTold (put .0); left = put .1 }
