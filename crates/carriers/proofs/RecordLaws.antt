@@ -31,7 +31,7 @@ use Rattle.record.specs.Columns.{tablesOf}
 use Rattle.record.specs.Writing.{judgedLists, recordFrom, checkedLists, judged}
 use Rattle.record.proofs.GoodLaws.{record-facts, header-facts}
 use Rattle.record.proofs.ColumnLaws.{take-over, length-seats, length-times}
-use Rattle.reading.proofs.ReadLaws.{Room, enough}
+use Rattle.filling.proofs.GoodReading.{Room, enough}
 use Rattle.record.proofs.WrittenAgain.{reading-again}
 use Rattle.record.proofs.WritingLaws.{lists-accepted}
 use Rattle.record.proofs.AcceptedLaws.{answer-accepted, answer-refused}

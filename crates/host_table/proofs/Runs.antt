@@ -1,25 +1,22 @@
 -- The promises of specs/Runs.antt, and that the exported calls ensure the step of a host's run.
 -- Assumes nothing.
-use mathlib.Core.Path.{_≡_, refl, sym, _∙_, ap}
-use mathlib.Core.List.{List, [], _∷_, map}
-use Prim.Native.Nat.{ℕ, _<_}
+use mathlib.Core.Path.{refl}
+use mathlib.Core.List.{[], _∷_}
+use Prim.Native.Nat.{_<_}
 use native.Mathlib.Omega.{arith}
 use base.Logic.{id⊢}
 use denote.Ref.{now}
 use Rattle.farm.specs.Refusals.{numberOf}
 use Rattle.farm.specs.declared.refusals.Refusal.{Refusal}
 use Rattle.farm.specs.declared.refusals.Refusal.the-variants as refusal
-use Rattle.live_table.specs.declared.table.Table.{Table}
-use Rattle.live.specs.declared.answers.Done.{Done}
 use Rattle.live.specs.declared.answers.Done.the-variants.{Accepted, Refused}
 use Rattle.live.specs.Answers.{doneOf}
-use Rattle.live.specs.Calls.{Call, opening, round, edit, answerTo}
+use Rattle.live.specs.Calls.{opening, round, edit, answerTo}
 use Rattle.live.specs.Runs as library
 use Rattle.live_calls.proofs.ContractRuns.{Ensures}
 use Rattle.host.specs.Numbers.{seatNamed}
-use Rattle.host.specs.Results.{doneNumber}
 use Rattle.host_table.specs.Codes.{EndsWith}
-use Rattle.host_table.specs.Runs.{HostRun, stop, step, RunBeneath, Host-run-is-a-run, Zero-means-accepted}
+use Rattle.host_table.specs.Runs.{stop, step, Host-run-is-a-run, Zero-means-accepted}
 use Rattle.host_table.proofs.calls.ricecrock_table_open as open′
 use Rattle.host_table.proofs.calls.ricecrock_table_add_round as add-round
 use Rattle.host_table.proofs.calls.ricecrock_table_add_edit as add-edit

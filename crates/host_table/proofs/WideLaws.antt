@@ -18,7 +18,7 @@ use Rattle.farm.specs.declared.refusals.Refusal.the-variants.{OutOfRange, BadTa
 use Rattle.farm.proofs.Cases.{less-or-not, true-or-false}
 use Rattle.record.specs.Changes.{mapped}
 use Rattle.record.specs.Good.{goodHeader, goodEdit, goodRecord}
-use Rattle.record.specs.Writing.{Verdict, faulty, unless}
+use Rattle.record.specs.Writing.{faulty, unless}
 use Rattle.record.proofs.GoodLaws.{header-facts, record-facts, edit-facts}
 use Rattle.live_table.specs.declared.table.Table.{Table}
 use Rattle.live_table.specs.Used.{usedRecord}

@@ -19,7 +19,7 @@ use Rattle.record.specs.Record.{Record, good, bad}
 use Rattle.record.specs.Tables.{Tables, seatsOf, timesOf}
 use Rattle.reading.specs.Outcome.{ReadOutcome}
 use Rattle.record.specs.Taking.{IsBytes}
-use Rattle.reading.proofs.ReadLaws.{Room}
+use Rattle.filling.proofs.GoodReading.{Room}
 use Rattle.questions.specs.Accepted.{Accepted}
 use Rattle.questions.specs.Question.{countOf, farmOfRecord}
 use Rattle.carriers.specs.Loading.{sizesOf}

@@ -1,4 +1,2 @@
-pub mod FillLaws
-pub mod AgainLaws
 pub mod ReadLaws
 pub mod CompleteLaws

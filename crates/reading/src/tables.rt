@@ -1,9 +1,9 @@
 // A record into lent tables. Refusal 7 comes first, whatever the record holds, then the record's own.
-use crate::fill::fill;
 use checking::whole::check;
 use farm::limits::TABLE_EDITS;
 use farm::limits::TABLE_LOSS_SETS;
 use farm::refusals::Refusal;
+use filling::fill::fill;
 use record::answers::Checked;
 ghost use mathlib.Core.Path.{_≡_};
 ghost use Rattle.record.specs.Tables.{tables};

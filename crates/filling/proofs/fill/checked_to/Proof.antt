@@ -1,10 +1,10 @@
--- `reading::fill::checked_to` meets its contract: each case of the last part's end has its answer.
+-- `filling::fill::checked_to` meets its contract: each case of the last part's end has its answer.
 -- Assumes nothing.
 use mathlib.Core.Path.{sym, ap}
 use borrow.Author.Needs.{needs}
-use Rattle.reading.specs.Filling.{checkedTo}
-use Rattle.reading.proofs.fill.checked_to.Statement.{statement}
-use Rattle.reading.proofs.fill.checked_to.Tie as tie
+use Rattle.filling.specs.Filling.{checkedTo}
+use Rattle.filling.proofs.fill.checked_to.Statement.{statement}
+use Rattle.filling.proofs.fill.checked_to.Tie as tie
 
 enum-told : tie.Need-enum-told
 enum-told c = search needs

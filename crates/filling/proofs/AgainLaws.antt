@@ -13,7 +13,7 @@ use Rattle.numbers.specs.declared.read.Number.the-variants.{Value, Refused}
 use Rattle.record.specs.Taking.{Taken, value}
 use Rattle.record.specs.Numbers.{takeNumber, takeWithin}
 use Rattle.record.specs.Edits.{takeEdit}
-use Rattle.reading.specs.Filling.{Gives}
+use Rattle.filling.specs.Filling.{Gives}
 use Rattle.numbers.specs.Cursors.{numberAt}
 use Rattle.record.proofs.TakingLaws.{value-not-refused}
 use Rattle.record.proofs.NumberLaws.{within-value}

@@ -18,7 +18,7 @@ use Rattle.record.specs.declared.edits.Before.the-variants.{Nothing, This}
 use Rattle.record.specs.Taking.{Taken, value, refused, _>>=_, when}
 use Rattle.record.specs.Numbers.{takeNumber}
 use Rattle.record.specs.Edits.{follows, takeEdit, takeEdits}
-use Rattle.reading.specs.Filling.{Gives, given, takeNumbers, AllBelow, EditsFilled}
+use Rattle.filling.specs.Filling.{Gives, given, takeNumbers, AllBelow, EditsFilled}
 use Rattle.record.specs.Tables.{Tables, tables, over, seatsOf, timesOf, cellsOf, changesOf}
 use Rattle.numbers.specs.Cursors.{cursorAt}
 use Rattle.parts.specs.Parts.{passedIn}

@@ -24,7 +24,7 @@ ghost use Rattle.farm.specs.Limits.{limits};
 ghost use Rattle.record.specs.declared.edits.Before.the-variants.{Nothing};
 ghost use Rattle.record.specs.Edits.{takeEdit, takeEdits};
 ghost use Rattle.parts.specs.Parts.{passedIn, editIn};
-ghost use Rattle.reading.specs.Filling.{Gives, given, takeNumbers, AllBelow, EditsFilled, checkedTo};
+ghost use Rattle.filling.specs.Filling.{Gives, given, takeNumbers, AllBelow, EditsFilled, checkedTo};
 ghost use mathlib.Core.List.{[]};
 ghost use Rattle.record.specs.Tables.{over, tables, Accepted, TablesRead, roomy};
 ghost use Rattle.record.specs.Document.{readingOf};

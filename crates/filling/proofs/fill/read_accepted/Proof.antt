@@ -1,10 +1,10 @@
--- `reading::fill::read_accepted` meets its contract: the four fields that were taken stand one after the other, and none of them is refused.
+-- `filling::fill::read_accepted` meets its contract: the four fields that were taken stand one after the other, and none of them is refused.
 -- Assumes nothing.
 use Rattle.parts.specs.declared.answers.EditRead.the-variants.{Edit as EditFound}
 use mir.ValLaws.{toZ-ofZ}
 use mir.Syntax.{w16}
 use lib.IntN.{ℤ}
-use Rattle.reading.proofs.AgainLaws.{field-again, not-refused, seat-gives, time-gives, cell-gives, change-gives}
+use Rattle.filling.proofs.AgainLaws.{field-again, not-refused, seat-gives, time-gives, cell-gives, change-gives}
 use Rattle.numbers.proofs.CursorLaws.{Field, cursor-drop}
 use Rattle.parts.specs.Parts.{editIn}
 use Rattle.record.specs.Edits.{takeEdit}
@@ -14,8 +14,8 @@ use native.Mathlib.Omega.{arith}
 use Prim.Native.Nat.{_-_}
 use mathlib.Core.Path.{_∙_, ap}
 use borrow.Author.Needs.{needs}
-use Rattle.reading.proofs.fill.read_accepted.Statement.{statement}
-use Rattle.reading.proofs.fill.read_accepted.Tie as tie
+use Rattle.filling.proofs.fill.read_accepted.Statement.{statement}
+use Rattle.filling.proofs.fill.read_accepted.Tie as tie
 
 seat-was : (c : tie.After-known-told)
     → Field 0 (c .before .before .before .before .before .args .n - 1) (now (c .before .before .before .before .before .args .bytes)) (c .before .before .before .before .before .args .from .at) (c .before .s .given .0 .0) (c .before .s .given .0 .1 .0 .at)

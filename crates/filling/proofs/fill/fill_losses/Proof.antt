@@ -1,6 +1,6 @@
--- `reading::fill::fill_losses` meets its contract. The loop's invariant: what is left to take makes the table what it is to be.
+-- `filling::fill::fill_losses` meets its contract. The loop's invariant: what is left to take makes the table what it is to be.
 -- Assumes nothing.
-use Rattle.reading.proofs.FillLaws.{SetsLeft, sets-start, sets-end, sets-on, sets-no-stop}
+use Rattle.filling.proofs.FillLaws.{SetsLeft, sets-start, sets-end, sets-on, sets-no-stop}
 use Rattle.numbers.proofs.CursorLaws.{number-was, number-was-refused}
 use Rattle.numbers.specs.Cursors.{numberAt}
 use denote.Ref.{now}
@@ -8,8 +8,8 @@ use borrow.Author.Needs.{needs}
 use native.Mathlib.Omega.{arith}
 use Prim.Native.Nat.{_-_}
 use mathlib.Core.Path.{sym, _∙_}
-use Rattle.reading.proofs.fill.fill_losses.Statement.{statement}
-use Rattle.reading.proofs.fill.fill_losses.Tie as tie
+use Rattle.filling.proofs.fill.fill_losses.Statement.{statement}
+use Rattle.filling.proofs.fill.fill_losses.Tie as tie
 
 abbrev Inv-loop : tie.InvT-loop
 Inv-loop bytes count losses₀ at₀ i₀ losses at i = SetsLeft bytes count at i losses₀ losses

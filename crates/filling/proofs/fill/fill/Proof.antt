@@ -1,17 +1,17 @@
--- `reading::fill::fill` meets its contract: the parts stand where the first pass found them, so each fill takes what that pass took.
+-- `filling::fill::fill` meets its contract: the parts stand where the first pass found them, so each fill takes what that pass took.
 -- Assumes nothing.
-use Rattle.reading.proofs.ReadLaws.{good-parts, Ready, ready, sets-ready, EditsReady, edits-ready, part-not-refused, good-answer, room, tables-filled}
+use Rattle.filling.proofs.GoodReading.{good-parts, Ready, ready, sets-ready, EditsReady, edits-ready, part-not-refused, good-answer, room, tables-filled}
 use Rattle.checking.proofs.RecordLaws.{Head, header-was, header-was-refused}
 use Rattle.parts.specs.Parts.{passedIn}
 use Rattle.record.proofs.TakingLaws.{value-not-refused}
-use Rattle.reading.specs.Filling.{checkedTo}
+use Rattle.filling.specs.Filling.{checkedTo}
 use Rattle.farm.specs.Limits.{limits}
 use denote.Ref.{now}
 use native.Mathlib.Omega.{arith}
 use mathlib.Core.Path.{sym, _∙_, ap}
 use borrow.Author.Needs.{needs}
-use Rattle.reading.proofs.fill.fill.Statement.{statement}
-use Rattle.reading.proofs.fill.fill.Tie as tie
+use Rattle.filling.proofs.fill.fill.Statement.{statement}
+use Rattle.filling.proofs.fill.fill.Tie as tie
 
 head : (c : tie.After-known-told) → Head (now (c .before .before .before .before .before .before .before .before .before .args .bytes)) (c .before .read .given .0 .0) (c .before .read .given .0 .1 .0 .at)
 head c = header-was _ _ _ _ (c .before .before .before .read-header .ensures) (c .before .read .given .1)

@@ -1,9 +1,9 @@
--- `reading::fill::fill_edits` meets its contract. The loop's invariant: what is left to take makes the four lists what they are to be.
+-- `filling::fill::fill_edits` meets its contract. The loop's invariant: what is left to take makes the four lists what they are to be.
 -- Assumes nothing.
 use mir.ValLaws.{toZ-ofZ}
 use mir.Val.{SFits}
 use mir.Syntax.{w16}
-use Rattle.reading.proofs.FillLaws.{EditsLeft, edits-start, edits-filled, edits-on, edits-give, edits-no-stop}
+use Rattle.filling.proofs.FillLaws.{EditsLeft, edits-start, edits-filled, edits-on, edits-give, edits-no-stop}
 use Rattle.parts.proofs.EditSteps.{edit-was, edit-was-refused}
 use Rattle.record.specs.Tables.{tables}
 use denote.Ref.{now}
@@ -11,8 +11,8 @@ use borrow.Author.Needs.{needs}
 use native.Mathlib.Omega.{arith}
 use Prim.Native.Nat.{_-_}
 use mathlib.Core.List.{[]}
-use Rattle.reading.proofs.fill.fill_edits.Statement.{statement}
-use Rattle.reading.proofs.fill.fill_edits.Tie as tie
+use Rattle.filling.proofs.fill.fill_edits.Statement.{statement}
+use Rattle.filling.proofs.fill.fill_edits.Tie as tie
 
 abbrev Inv-loop : tie.InvT-loop
 Inv-loop bytes n rounds count seats₀ times₀ cells₀ changes₀ at₀ i₀ seats times cells changes at i = EditsLeft bytes n rounds count at i (tables [] seats₀ times₀ cells₀ changes₀) (tables [] seats times cells changes)
