@@ -3,7 +3,7 @@ use mathlib.Core.Path.{_≡_}
 use mathlib.Core.List.{List, [], _∷_}
 use Prim.Native.Nat.{ℕ, zero, suc, _<_}
 use Rattle.farm.specs.Limits.{Limits}
-use Rattle.record.specs.Taking.{Taken, value, refused}
+use Rattle.record.specs.Taking.{Taken, value, refused, _>>=_}
 use Rattle.record.specs.Numbers.{takeNumber}
 use Rattle.record.specs.declared.header.Header.{Header}
 use Rattle.record.specs.declared.edits.Edit.{Edit}

@@ -7,7 +7,7 @@ use Rattle.farm.specs.Limits.{Limits}
 use Rattle.farm.specs.Sets.{Seats, bit}
 use Rattle.farm.specs.declared.places.Seat.{Seat}
 use Rattle.farm.specs.declared.refusals.Refusal.the-variants.{BadLossSet}
-use Rattle.record.specs.Taking.{Taken, value, when}
+use Rattle.record.specs.Taking.{Taken, value, _>>=_, when}
 use Rattle.record.specs.Numbers.{numberBytes, takeNumber}
 
 -- The first sender of a round, and the one after another.
