@@ -108,83 +108,83 @@ pub record Fills {A : Type 0} (ask : Lent → Asked (List A)) (old : List A) (an
 
 pub record EntryPoints : Type 2 where
   -- Records looked through, into tables and out of lists.
-  pub check : Ensures check.ended (λ M. check.clauses {M = M}) (λ κs (bytes, none) r end. r ≡ checked_of (reading_of bytes.now))
-  pub judge : Ensures judge.ended (λ M. judge.clauses {M = M})
+  pub check : Ensures check.ended (λ M 𝓤. check.clauses {M = M} {𝓤 = 𝓤}) (λ κs (bytes, none) r end. r ≡ checked_of (reading_of bytes.now))
+  pub judge : Ensures judge.ended (λ M 𝓤. judge.clauses {M = M} {𝓤 = 𝓤})
       (λ κs (n, (t, (R, (losses, (seats, (times, (cells, (changes, none)))))))) r end.
       r ≡ judged_in (judged_lists limits n t R (lists_of losses.now seats.now times.now cells.now changes.now)))
-  pub read : Ensures read.ended (λ M. read.clauses {M = M})
+  pub read : Ensures read.ended (λ M 𝓤. read.clauses {M = M} {𝓤 = 𝓤})
       (λ κs (bytes, (losses, (seats, (times, (cells, (changes, none)))))) r (bytes', (losses', (seats', (times', (cells', (changes', none')))))).
       ReadOutcome bytes.now (tables losses.now seats.now times.now cells.now changes.now) r
       (tables losses'.now seats'.now times'.now cells'.now changes'.now))
-  pub write : Ensures write.ended (λ M. write.clauses {M = M})
+  pub write : Ensures write.ended (λ M 𝓤. write.clauses {M = M} {𝓤 = 𝓤})
       (λ κs (n, (t, (R, (losses, (seats, (times, (cells, (changes, (out, none))))))))) r
       (n', (t', (R', (losses', (seats', (times', (cells', (changes', (out', none'))))))))).
       (r ≡ written_in (written_to limits n t R (lists_of losses.now seats.now times.now cells.now changes.now) (length out.now)))
       × (out'.now ≡ buffer_after limits n t R (lists_of losses.now seats.now times.now cells.now changes.now) out.now))
-  pub needed : Ensures needed.ended (λ M. needed.clauses {M = M})
+  pub needed : Ensures needed.ended (λ M 𝓤. needed.clauses {M = M} {𝓤 = 𝓤})
       (λ κs (n, (t, (R, (losses, (seats, (times, (cells, (changes, none)))))))) r end.
       r ≡ written_in (needed_by limits n t R (lists_of losses.now seats.now times.now cells.now changes.now)))
   -- Questions on a record as bytes.
-  pub bytes-seen : Ensures byte-seen.ended (λ M. byte-seen.clauses {M = M})
+  pub bytes-seen : Ensures byte-seen.ended (λ M 𝓤. byte-seen.clauses {M = M} {𝓤 = 𝓤})
       (λ κs (bytes, (p, (ℓ, none))) r end. SaysSeen (reading_of bytes.now) p ℓ r)
-  pub bytes-agreed : Ensures byte-agreed.ended (λ M. byte-agreed.clauses {M = M})
+  pub bytes-agreed : Ensures byte-agreed.ended (λ M 𝓤. byte-agreed.clauses {M = M} {𝓤 = 𝓤})
       (λ κs (bytes, (p, (ℓ, none))) r end. SaysAgreed (reading_of bytes.now) p ℓ r)
-  pub bytes-standing : Ensures byte-standing.ended (λ M. byte-standing.clauses {M = M})
+  pub bytes-standing : Ensures byte-standing.ended (λ M 𝓤. byte-standing.clauses {M = M} {𝓤 = 𝓤})
       (λ κs (bytes, (p, none)) r end. SaysStanding (reading_of bytes.now) p r)
-  pub bytes-view : Ensures byte-view.ended (λ M. byte-view.clauses {M = M})
+  pub bytes-view : Ensures byte-view.ended (λ M 𝓤. byte-view.clauses {M = M} {𝓤 = 𝓤})
       (λ κs (bytes, (p, (ℓ, (out, none)))) r (bytes', (p', (ℓ', (out', none')))).
       Fills (λ lent. view_asked lent (reading_of bytes.now) p ℓ) out.now r out'.now)
-  pub bytes-core : Ensures byte-core.ended (λ M. byte-core.clauses {M = M})
+  pub bytes-core : Ensures byte-core.ended (λ M 𝓤. byte-core.clauses {M = M} {𝓤 = 𝓤})
       (λ κs (bytes, (p, (ℓ, (out, none)))) r (bytes', (p', (ℓ', (out', none')))).
       Fills (λ lent. core_asked lent (reading_of bytes.now) p ℓ) out.now r out'.now)
-  pub bytes-marks : Ensures byte-marks.ended (λ M. byte-marks.clauses {M = M})
+  pub bytes-marks : Ensures byte-marks.ended (λ M 𝓤. byte-marks.clauses {M = M} {𝓤 = 𝓤})
       (λ κs (bytes, (p, (ℓ, (out, none)))) r (bytes', (p', (ℓ', (out', none')))).
       Fills (λ lent. marks_asked lent (reading_of bytes.now) p ℓ) out.now r out'.now)
   -- Questions on a record as lists.
-  pub lists-seen : Ensures list-seen.ended (λ M. list-seen.clauses {M = M})
+  pub lists-seen : Ensures list-seen.ended (λ M 𝓤. list-seen.clauses {M = M} {𝓤 = 𝓤})
       (λ κs (n, (t, (R, (losses, (seats, (times, (cells, (changes, (p, (ℓ, none)))))))))) r end.
       SaysSeen (lists_read n t R losses.now seats.now times.now cells.now changes.now) p ℓ r)
-  pub lists-agreed : Ensures list-agreed.ended (λ M. list-agreed.clauses {M = M})
+  pub lists-agreed : Ensures list-agreed.ended (λ M 𝓤. list-agreed.clauses {M = M} {𝓤 = 𝓤})
       (λ κs (n, (t, (R, (losses, (seats, (times, (cells, (changes, (p, (ℓ, none)))))))))) r end.
       SaysAgreed (lists_read n t R losses.now seats.now times.now cells.now changes.now) p ℓ r)
-  pub lists-standing : Ensures list-standing.ended (λ M. list-standing.clauses {M = M})
+  pub lists-standing : Ensures list-standing.ended (λ M 𝓤. list-standing.clauses {M = M} {𝓤 = 𝓤})
       (λ κs (n, (t, (R, (losses, (seats, (times, (cells, (changes, (p, none))))))))) r end.
       SaysStanding (lists_read n t R losses.now seats.now times.now cells.now changes.now) p r)
-  pub lists-view : Ensures list-view.ended (λ M. list-view.clauses {M = M})
+  pub lists-view : Ensures list-view.ended (λ M 𝓤. list-view.clauses {M = M} {𝓤 = 𝓤})
       (λ κs (n, (t, (R, (losses, (seats, (times, (cells, (changes, (p, (ℓ, (out, none))))))))))) r
       (n', (t', (R', (losses', (seats', (times', (cells', (changes', (p', (ℓ', (out', none'))))))))))).
       Fills (λ lent. view_asked lent (lists_read n t R losses.now seats.now times.now cells.now changes.now) p ℓ) out.now r out'.now)
-  pub lists-core : Ensures list-core.ended (λ M. list-core.clauses {M = M})
+  pub lists-core : Ensures list-core.ended (λ M 𝓤. list-core.clauses {M = M} {𝓤 = 𝓤})
       (λ κs (n, (t, (R, (losses, (seats, (times, (cells, (changes, (p, (ℓ, (out, none))))))))))) r
       (n', (t', (R', (losses', (seats', (times', (cells', (changes', (p', (ℓ', (out', none'))))))))))).
       Fills (λ lent. core_asked lent (lists_read n t R losses.now seats.now times.now cells.now changes.now) p ℓ) out.now r out'.now)
-  pub lists-marks : Ensures list-marks.ended (λ M. list-marks.clauses {M = M})
+  pub lists-marks : Ensures list-marks.ended (λ M 𝓤. list-marks.clauses {M = M} {𝓤 = 𝓤})
       (λ κs (n, (t, (R, (losses, (seats, (times, (cells, (changes, (p, (ℓ, (out, none))))))))))) r
       (n', (t', (R', (losses', (seats', (times', (cells', (changes', (p', (ℓ', (out', none'))))))))))).
       Fills (λ lent. marks_asked lent (lists_read n t R losses.now seats.now times.now cells.now changes.now) p ℓ) out.now r out'.now)
   -- Questions on the live table, and the record so far as bytes.
-  pub table-seen : Ensures table-seen.ended (λ M. table-seen.clauses {M = M})
+  pub table-seen : Ensures table-seen.ended (λ M 𝓤. table-seen.clauses {M = M} {𝓤 = 𝓤})
       (λ κs (table, (p, (ℓ, none))) r end. SaysSeen (table_reading table.now) p ℓ r)
-  pub table-agreed : Ensures table-agreed.ended (λ M. table-agreed.clauses {M = M})
+  pub table-agreed : Ensures table-agreed.ended (λ M 𝓤. table-agreed.clauses {M = M} {𝓤 = 𝓤})
       (λ κs (table, (p, (ℓ, none))) r end. SaysAgreed (table_reading table.now) p ℓ r)
-  pub table-standing : Ensures table-standing.ended (λ M. table-standing.clauses {M = M})
+  pub table-standing : Ensures table-standing.ended (λ M 𝓤. table-standing.clauses {M = M} {𝓤 = 𝓤})
       (λ κs (table, (p, none)) r end. SaysStanding (table_reading table.now) p r)
-  pub table-view : Ensures table-view.ended (λ M. table-view.clauses {M = M})
+  pub table-view : Ensures table-view.ended (λ M 𝓤. table-view.clauses {M = M} {𝓤 = 𝓤})
       (λ κs (table, (p, (ℓ, (out, none)))) r (table', (p', (ℓ', (out', none')))).
       Fills (λ lent. view_asked lent (table_reading table.now) p ℓ) out.now r out'.now)
-  pub table-core : Ensures table-core.ended (λ M. table-core.clauses {M = M})
+  pub table-core : Ensures table-core.ended (λ M 𝓤. table-core.clauses {M = M} {𝓤 = 𝓤})
       (λ κs (table, (p, (ℓ, (out, none)))) r (table', (p', (ℓ', (out', none')))).
       Fills (λ lent. core_asked lent (table_reading table.now) p ℓ) out.now r out'.now)
-  pub table-marks : Ensures table-marks.ended (λ M. table-marks.clauses {M = M})
+  pub table-marks : Ensures table-marks.ended (λ M 𝓤. table-marks.clauses {M = M} {𝓤 = 𝓤})
       (λ κs (table, (p, (ℓ, (out, none)))) r (table', (p', (ℓ', (out', none')))).
       Fills (λ lent. marks_asked lent (table_reading table.now) p ℓ) out.now r out'.now)
-  pub write-out : Ensures write-out.ended (λ M. write-out.clauses {M = M})
+  pub write-out : Ensures write-out.ended (λ M 𝓤. write-out.clauses {M = M} {𝓤 = 𝓤})
       (λ κs (table, (out, none)) r (table', (out', none')).
       (r ≡ written_in (answered limits (table_reading table.now) (length out.now))) × (out'.now ≡ buffer_with limits (table_reading table.now) out.now))
   -- The calls on the live table: each is a step of a run.
-  pub opening : Ensures open'.ended (λ M. open'.clauses {M = M})
+  pub opening : Ensures open'.ended (λ M 𝓤. open'.clauses {M = M} {𝓤 = 𝓤})
       (λ κs (table, (n, (t, none))) r (table', (n', (t', none'))). Ends (opening n t) table.now r table'.now)
-  pub round : Ensures add-round.ended (λ M. add-round.clauses {M = M})
+  pub round : Ensures add-round.ended (λ M 𝓤. add-round.clauses {M = M} {𝓤 = 𝓤})
       (λ κs (table, (sets, none)) r (table', (sets', none')). Ends (round sets.now) table.now r table'.now)
-  pub edit : Ensures add-edit.ended (λ M. add-edit.clauses {M = M})
+  pub edit : Ensures add-edit.ended (λ M 𝓤. add-edit.clauses {M = M} {𝓤 = 𝓤})
       (λ κs (table, (p, (cell, (change, none)))) r (table', (p', (cell', (change', none')))). Ends (edit p cell change) table.now r table'.now)

@@ -12,7 +12,7 @@ use viewing::sizes::Sizes;
 use viewing::views::{ROOM, TABLE, seat_view, view_of, views_at};
 
 // The known sets of all seats' views at one time, 0 for every seat from n on.
-#[derive(Drop)]
+#[derive(Clone, Copy)]
 pub struct KnownSets {
     pub of: [u16; ROOM],
 }

@@ -15,7 +15,7 @@ use viewing::sizes::Sizes;
 use viewing::views::{Counts, ROOM, view_of_set};
 
 // Rule 5: the count of steps, the critical time, which may be below 0, the kept set and the core.
-#[derive(Drop)]
+#[derive(Clone, Copy)]
 pub struct Settled {
     pub steps: u8,
     pub critical: i16,
@@ -24,14 +24,14 @@ pub struct Settled {
 }
 
 // Whether the question is answered; of the refusals only OverBound (9) is given here.
-#[derive(Drop)]
+#[derive(Clone, Copy)]
 pub enum Ruling {
     Answered,
     Refused(Refusal),
 }
 
 // A ruling, and beside it the settled answer, which is all 0 beside a refusal.
-#[derive(Drop)]
+#[derive(Clone, Copy)]
 pub struct Answer {
     pub ruling: Ruling,
     pub settled: Settled,

@@ -6,11 +6,11 @@ ghost use Rattle.host.specs.Numbers.{at_most};
 use farm::places::{Seat, Time};
 
 #[repr(C)]
-#[derive(Drop)]
+#[derive(Clone, Copy)]
 pub struct SeatNumber(pub u32);
 
 #[repr(C)]
-#[derive(Drop)]
+#[derive(Clone, Copy)]
 pub struct TimeNumber(pub u32);
 
 pub fn byte_of(number: u32) -> u8

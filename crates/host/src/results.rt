@@ -9,7 +9,7 @@ use questions::answers::{Agreed, Given, Seen, Standing};
 use record::answers::{Checked, Written};
 
 #[repr(C)]
-#[derive(Drop)]
+#[derive(Clone, Copy)]
 pub struct HeaderTold {
     pub refusal: u8,
     pub seats: u8,
@@ -19,14 +19,14 @@ pub struct HeaderTold {
 }
 
 #[repr(C)]
-#[derive(Drop)]
+#[derive(Clone, Copy)]
 pub struct LengthTold {
     pub refusal: u8,
     pub length: usize,
 }
 
 #[repr(C)]
-#[derive(Drop)]
+#[derive(Clone, Copy)]
 pub struct SeenTold {
     pub refusal: u8,
     pub known: u16,
@@ -34,7 +34,7 @@ pub struct SeenTold {
 }
 
 #[repr(C)]
-#[derive(Drop)]
+#[derive(Clone, Copy)]
 pub struct AgreedTold {
     pub refusal: u8,
     pub steps: u8,
@@ -45,7 +45,7 @@ pub struct AgreedTold {
 }
 
 #[repr(C)]
-#[derive(Drop)]
+#[derive(Clone, Copy)]
 pub struct StandingTold {
     pub refusal: u8,
     pub loser: u8,

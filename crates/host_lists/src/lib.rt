@@ -1,3 +1,5 @@
 // A record as lists, for hosts in C: include/ricecrock.h declares these functions.
+#![tactic(auto)]
+
 pub mod asks; // asks.rt: the questions
 pub mod records; // records.rt: whether they are a good record, its length, its bytes

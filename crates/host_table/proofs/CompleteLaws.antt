@@ -13,32 +13,32 @@ use Rattle.host_table.specs.contracts.asks.ricecrock_table_core as ricecrock-tab
 use Rattle.host_table.specs.contracts.asks.ricecrock_table_marks as ricecrock-table-marks
 use Rattle.host_table.specs.contracts.asks.ricecrock_table_record as ricecrock-table-record
 
-pub ricecrock-table-open-complete : Complete ricecrock-table-open.ended (λ M. ricecrock-table-open.clauses {M = M})
+pub ricecrock-table-open-complete : Complete ricecrock-table-open.ended (λ M 𝓤. ricecrock-table-open.clauses {M = M} {𝓤 = 𝓤})
 ricecrock-table-open-complete M 𝓤 𝓛 mem run κs a g r s v w = by-facts M 𝓤 _ _ _ (λ p q. (cc, cc))
 
-pub ricecrock-table-add-round-complete : Complete ricecrock-table-add-round.ended (λ M. ricecrock-table-add-round.clauses {M = M})
+pub ricecrock-table-add-round-complete : Complete ricecrock-table-add-round.ended (λ M 𝓤. ricecrock-table-add-round.clauses {M = M} {𝓤 = 𝓤})
 ricecrock-table-add-round-complete M 𝓤 𝓛 mem run κs a g r s v w = by-facts M 𝓤 _ _ _ (λ p q. (cc, cc))
 
-pub ricecrock-table-add-edit-complete : Complete ricecrock-table-add-edit.ended (λ M. ricecrock-table-add-edit.clauses {M = M})
+pub ricecrock-table-add-edit-complete : Complete ricecrock-table-add-edit.ended (λ M 𝓤. ricecrock-table-add-edit.clauses {M = M} {𝓤 = 𝓤})
 ricecrock-table-add-edit-complete M 𝓤 𝓛 mem run κs a g r s v w = by-facts M 𝓤 _ _ _ (λ p q. (cc, cc))
 
-pub ricecrock-table-seen-complete : Complete ricecrock-table-seen.ended (λ M. ricecrock-table-seen.clauses {M = M})
+pub ricecrock-table-seen-complete : Complete ricecrock-table-seen.ended (λ M 𝓤. ricecrock-table-seen.clauses {M = M} {𝓤 = 𝓤})
 ricecrock-table-seen-complete M 𝓤 𝓛 mem run κs a g r s v w = by-facts M 𝓤 _ _ _ (λ p q. (p ∙ sym q, refl))
 
-pub ricecrock-table-agreed-complete : Complete ricecrock-table-agreed.ended (λ M. ricecrock-table-agreed.clauses {M = M})
+pub ricecrock-table-agreed-complete : Complete ricecrock-table-agreed.ended (λ M 𝓤. ricecrock-table-agreed.clauses {M = M} {𝓤 = 𝓤})
 ricecrock-table-agreed-complete M 𝓤 𝓛 mem run κs a g r s v w = by-facts M 𝓤 _ _ _ (λ p q. (p ∙ sym q, refl))
 
-pub ricecrock-table-standing-complete : Complete ricecrock-table-standing.ended (λ M. ricecrock-table-standing.clauses {M = M})
+pub ricecrock-table-standing-complete : Complete ricecrock-table-standing.ended (λ M 𝓤. ricecrock-table-standing.clauses {M = M} {𝓤 = 𝓤})
 ricecrock-table-standing-complete M 𝓤 𝓛 mem run κs a g r s v w = by-facts M 𝓤 _ _ _ (λ p q. (p ∙ sym q, refl))
 
-pub ricecrock-table-view-complete : Complete ricecrock-table-view.ended (λ M. ricecrock-table-view.clauses {M = M})
+pub ricecrock-table-view-complete : Complete ricecrock-table-view.ended (λ M 𝓤. ricecrock-table-view.clauses {M = M} {𝓤 = 𝓤})
 ricecrock-table-view-complete M 𝓤 𝓛 mem run κs a g r s v w = by-facts M 𝓤 _ _ _ (λ p q. (p.numbered ∙ sym q.numbered, cc))
 
-pub ricecrock-table-core-complete : Complete ricecrock-table-core.ended (λ M. ricecrock-table-core.clauses {M = M})
+pub ricecrock-table-core-complete : Complete ricecrock-table-core.ended (λ M 𝓤. ricecrock-table-core.clauses {M = M} {𝓤 = 𝓤})
 ricecrock-table-core-complete M 𝓤 𝓛 mem run κs a g r s v w = by-facts M 𝓤 _ _ _ (λ p q. (p.numbered ∙ sym q.numbered, cc))
 
-pub ricecrock-table-marks-complete : Complete ricecrock-table-marks.ended (λ M. ricecrock-table-marks.clauses {M = M})
+pub ricecrock-table-marks-complete : Complete ricecrock-table-marks.ended (λ M 𝓤. ricecrock-table-marks.clauses {M = M} {𝓤 = 𝓤})
 ricecrock-table-marks-complete M 𝓤 𝓛 mem run κs a g r s v w = by-facts M 𝓤 _ _ _ (λ p q. (p.numbered ∙ sym q.numbered, cc))
 
-pub ricecrock-table-record-complete : Complete ricecrock-table-record.ended (λ M. ricecrock-table-record.clauses {M = M})
+pub ricecrock-table-record-complete : Complete ricecrock-table-record.ended (λ M 𝓤. ricecrock-table-record.clauses {M = M} {𝓤 = 𝓤})
 ricecrock-table-record-complete M 𝓤 𝓛 mem run κs a g r s v w = by-facts M 𝓤 _ _ _ (λ p q. (p.answered ∙ sym q.answered, cc))

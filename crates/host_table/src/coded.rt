@@ -54,7 +54,7 @@ pub fn coded_round<'a>(
 }
 
 // The numbers of an edit that the library's call can take.
-#[derive(Drop)]
+#[derive(Clone, Copy)]
 struct Small {
     seat: Seat,
     change: i16,

@@ -14,7 +14,7 @@ use text::words::put_word;
 pub const LINE_ROOM: usize = 96;
 
 // The numbers of the first line.
-#[derive(Drop)]
+#[derive(Clone, Copy)]
 pub struct HeaderLine {
     pub seats: u8,
     pub bound: u8,
@@ -24,7 +24,7 @@ pub struct HeaderLine {
 
 // What the page says of a seat at a time. Of the core the first `seats` numbers are printed, all
 // seven where `seats` is more.
-#[derive(Drop)]
+#[derive(Clone, Copy)]
 pub struct PlaceLine {
     pub time: Time,
     pub seat: Seat,
@@ -37,7 +37,7 @@ pub struct PlaceLine {
 }
 
 // The page's length up to the end of the line that was printed, or nothing printed for want of room.
-#[derive(Drop)]
+#[derive(Clone, Copy)]
 pub enum Printed {
     Length(usize),
     NoRoom,

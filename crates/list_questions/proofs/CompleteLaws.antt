@@ -10,23 +10,23 @@ use Rattle.list_questions.specs.contracts.asks.view as view
 use Rattle.list_questions.specs.contracts.asks.core as core
 use Rattle.list_questions.specs.contracts.asks.marks as marks
 
-pub check-lists-complete : Complete check-lists.ended (λ M. check-lists.clauses {M = M})
+pub check-lists-complete : Complete check-lists.ended (λ M 𝓤. check-lists.clauses {M = M} {𝓤 = 𝓤})
 check-lists-complete M 𝓤 𝓛 mem run κs a g r s v w = by-facts M 𝓤 _ _ _ (λ p q. (p.told ∙ sym q.told, refl))
 
-pub seen-complete : Complete seen.ended (λ M. seen.clauses {M = M})
+pub seen-complete : Complete seen.ended (λ M 𝓤. seen.clauses {M = M} {𝓤 = 𝓤})
 seen-complete M 𝓤 𝓛 mem run κs a g r s v w = by-facts M 𝓤 _ _ _ (λ p q. (p ∙ sym q, refl))
 
-pub agreed-complete : Complete agreed.ended (λ M. agreed.clauses {M = M})
+pub agreed-complete : Complete agreed.ended (λ M 𝓤. agreed.clauses {M = M} {𝓤 = 𝓤})
 agreed-complete M 𝓤 𝓛 mem run κs a g r s v w = by-facts M 𝓤 _ _ _ (λ p q. (p ∙ sym q, refl))
 
-pub standing-complete : Complete standing.ended (λ M. standing.clauses {M = M})
+pub standing-complete : Complete standing.ended (λ M 𝓤. standing.clauses {M = M} {𝓤 = 𝓤})
 standing-complete M 𝓤 𝓛 mem run κs a g r s v w = by-facts M 𝓤 _ _ _ (λ p q. (p ∙ sym q, refl))
 
-pub view-complete : Complete view.ended (λ M. view.clauses {M = M})
+pub view-complete : Complete view.ended (λ M 𝓤. view.clauses {M = M} {𝓤 = 𝓤})
 view-complete M 𝓤 𝓛 mem run κs a g r s v w = by-facts M 𝓤 _ _ _ (λ p q. (p.answered ∙ sym q.answered, cc))
 
-pub core-complete : Complete core.ended (λ M. core.clauses {M = M})
+pub core-complete : Complete core.ended (λ M 𝓤. core.clauses {M = M} {𝓤 = 𝓤})
 core-complete M 𝓤 𝓛 mem run κs a g r s v w = by-facts M 𝓤 _ _ _ (λ p q. (p.answered ∙ sym q.answered, cc))
 
-pub marks-complete : Complete marks.ended (λ M. marks.clauses {M = M})
+pub marks-complete : Complete marks.ended (λ M 𝓤. marks.clauses {M = M} {𝓤 = 𝓤})
 marks-complete M 𝓤 𝓛 mem run κs a g r s v w = by-facts M 𝓤 _ _ _ (λ p q. (p.answered ∙ sym q.answered, cc))

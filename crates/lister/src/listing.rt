@@ -8,7 +8,7 @@ use lines::printing::Printed;
 use page::whole::write_page;
 use taking::reads::Input;
 
-#[derive(Drop)]
+#[derive(Clone, Copy)]
 pub enum Listed {
     // The page of so many bytes at the front of the buffer.
     Page(usize, Printed),

@@ -1,5 +1,7 @@
 // The lister: one record from standard input, its page on standard output. Document 01, "The lister's
 // page". What is wrong with the input itself is said on standard error.
+#![tactic(auto)]
+
 mod input; // input.rt: the bytes that are taken from standard input
 mod listing; // listing.rt: the page of what was taken
 

@@ -2,14 +2,14 @@
 use farm::refusals::Refusal;
 use live_table::table::Table;
 
-#[derive(Drop)]
+#[derive(Clone, Copy)]
 pub enum Done {
     Accepted,
     Refused(Refusal),
 }
 
 // A step by value: the answer, and the table after it.
-#[derive(Drop)]
+#[derive(Clone, Copy)]
 pub struct Step {
     pub answer: Done,
     pub table: Table,

@@ -1,5 +1,7 @@
 // The live table: a farm's record while it is played. The host keeps one table in its memory, and every
 // call tests it before it adds to it.
+#![tactic(auto)]
+
 mod answering; // answering.rt: the tests of a round and of an edit, in their order
 pub mod answers; // answers.rt: what a call answers
 pub mod places; // places.rt: each call on the lent parts of a table, judged and stored in place

@@ -12,13 +12,13 @@ use Rattle.live_calls.specs.contracts.steps.with_edit as with-edit
 
 -- ════ On the host's table ════
 
-pub open-complete : Complete open'.ended (λ M. open'.clauses {M = M})
+pub open-complete : Complete open'.ended (λ M 𝓤. open'.clauses {M = M} {𝓤 = 𝓤})
 open-complete M 𝓤 𝓛 mem run κs a g r s v w = by-facts M 𝓤 _ _ _ (λ p q. (cc, cc))
 
-pub add-round-complete : Complete add-round.ended (λ M. add-round.clauses {M = M})
+pub add-round-complete : Complete add-round.ended (λ M 𝓤. add-round.clauses {M = M} {𝓤 = 𝓤})
 add-round-complete M 𝓤 𝓛 mem run κs a g r s v w = by-facts M 𝓤 _ _ _ (λ p q. (cc, cc))
 
-pub add-edit-complete : Complete add-edit.ended (λ M. add-edit.clauses {M = M})
+pub add-edit-complete : Complete add-edit.ended (λ M 𝓤. add-edit.clauses {M = M} {𝓤 = 𝓤})
 add-edit-complete M 𝓤 𝓛 mem run κs a g r s v w = by-facts M 𝓤 _ _ _ (λ p q. (cc, cc))
 
 -- ════ On a table by value ════
@@ -26,11 +26,11 @@ add-edit-complete M 𝓤 𝓛 mem run κs a g r s v w = by-facts M 𝓤 _ _ _ (�
 same_step : (r s : Step) → r.answer ≡ s.answer → r.table ≡ s.table → r ≡ s
 same_step r s p q = λ i. record { answer = p i; table = q i }
 
-pub opened-complete : Complete opened.ended (λ M. opened.clauses {M = M})
+pub opened-complete : Complete opened.ended (λ M 𝓤. opened.clauses {M = M} {𝓤 = 𝓤})
 opened-complete M 𝓤 𝓛 mem run κs a g r s v w = by-facts M 𝓤 _ _ _ (λ p q. (same_step r s (cc) (cc), cc))
 
-pub with-round-complete : Complete with-round.ended (λ M. with-round.clauses {M = M})
+pub with-round-complete : Complete with-round.ended (λ M 𝓤. with-round.clauses {M = M} {𝓤 = 𝓤})
 with-round-complete M 𝓤 𝓛 mem run κs a g r s v w = by-facts M 𝓤 _ _ _ (λ p q. (same_step r s (cc) (cc), cc))
 
-pub with-edit-complete : Complete with-edit.ended (λ M. with-edit.clauses {M = M})
+pub with-edit-complete : Complete with-edit.ended (λ M 𝓤. with-edit.clauses {M = M} {𝓤 = 𝓤})
 with-edit-complete M 𝓤 𝓛 mem run κs a g r s v w = by-facts M 𝓤 _ _ _ (λ p q. (same_step r s (cc) (cc), cc))

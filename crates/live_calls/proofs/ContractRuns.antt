@@ -26,14 +26,14 @@ Ensures T contract property =
     → ent 𝓤 ((contract M 𝓤 𝓛 mem run κs a).ensures g r end) (fact 𝓤 (property κs a r end))
 
 -- The parameters are counted from the table, which is the first.
-pub open-ends : Ensures open'.ended (λ M. open'.clauses {M = M})
+pub open-ends : Ensures open'.ended (λ M 𝓤. open'.clauses {M = M} {𝓤 = 𝓤})
     (λ κs a r end. Ends (opening a.1.0 a.1.1.0) a.0.now r end.0.now)
 open-ends M 𝓤 𝓛 mem run κs a g r end = id⊢ 𝓤 _
 
-pub add-round-ends : Ensures add-round.ended (λ M. add-round.clauses {M = M})
+pub add-round-ends : Ensures add-round.ended (λ M 𝓤. add-round.clauses {M = M} {𝓤 = 𝓤})
     (λ κs a r end. Ends (round a.1.0.now) a.0.now r end.0.now)
 add-round-ends M 𝓤 𝓛 mem run κs a g r end = id⊢ 𝓤 _
 
-pub add-edit-ends : Ensures add-edit.ended (λ M. add-edit.clauses {M = M})
+pub add-edit-ends : Ensures add-edit.ended (λ M 𝓤. add-edit.clauses {M = M} {𝓤 = 𝓤})
     (λ κs a r end. Ends (edit a.1.0 a.1.1.0 a.1.1.1.0) a.0.now r end.0.now)
 add-edit-ends M 𝓤 𝓛 mem run κs a g r end = id⊢ 𝓤 _

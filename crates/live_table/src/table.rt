@@ -2,7 +2,7 @@
 // the loss sets of the rounds done and the edits held; what lies past it is never looked at.
 
 #[repr(C)]
-#[derive(Drop)]
+#[derive(Clone, Copy)]
 pub struct Table {
     pub seats: u8,
     pub bound: u8,

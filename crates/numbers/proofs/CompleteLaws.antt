@@ -7,17 +7,17 @@ use Rattle.numbers.specs.contracts.read.read_within as read-within
 use Rattle.numbers.specs.contracts.write.number_length as number-length
 use Rattle.numbers.specs.contracts.write.put_number as put-number
 
-pub read-number-complete : Complete read_number.ended (λ M. read_number.clauses {M = M})
+pub read-number-complete : Complete read_number.ended (λ M 𝓤. read_number.clauses {M = M} {𝓤 = 𝓤})
 read-number-complete M 𝓤 𝓛 mem run κs a g r s v w = by-facts M 𝓤 _ _ _ (λ p q. (cc, cc))
 
-pub refusal-of-complete : Complete refusal-of.ended (λ M. refusal-of.clauses {M = M})
+pub refusal-of-complete : Complete refusal-of.ended (λ M 𝓤. refusal-of.clauses {M = M} {𝓤 = 𝓤})
 refusal-of-complete M 𝓤 𝓛 mem run κs a g r s v w = by-facts M 𝓤 _ _ _ (λ p q. (cc, cc))
 
-pub read-within-complete : Complete read-within.ended (λ M. read-within.clauses {M = M})
+pub read-within-complete : Complete read-within.ended (λ M 𝓤. read-within.clauses {M = M} {𝓤 = 𝓤})
 read-within-complete M 𝓤 𝓛 mem run κs a g r s v w = by-facts M 𝓤 _ _ _ (λ p q. (cc, cc))
 
-pub number-length-complete : Complete number-length.ended (λ M. number-length.clauses {M = M})
+pub number-length-complete : Complete number-length.ended (λ M 𝓤. number-length.clauses {M = M} {𝓤 = 𝓤})
 number-length-complete M 𝓤 𝓛 mem run κs a g r s v w = by-facts M 𝓤 _ _ _ (λ p q. (cc, cc))
 
-pub put-number-complete : Complete put-number.ended (λ M. put-number.clauses {M = M})
+pub put-number-complete : Complete put-number.ended (λ M 𝓤. put-number.clauses {M = M} {𝓤 = 𝓤})
 put-number-complete M 𝓤 𝓛 mem run κs a g r s v w = by-facts M 𝓤 _ _ _ (λ p q. (cc, cc))

@@ -6,12 +6,12 @@ ghost use Rattle.numbers.specs.Cursors.{number_at, within_at, refusal_in};
 use farm::refusals::Refusal;
 
 // A place in a byte string.
-#[derive(Drop)]
+#[derive(Clone, Copy)]
 pub struct Cursor {
     pub at: usize,
 }
 
-#[derive(Drop)]
+#[derive(Clone, Copy)]
 pub enum Number {
     // The value, and where the rest of the bytes begins.
     Value(u32, Cursor),

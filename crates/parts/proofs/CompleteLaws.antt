@@ -11,29 +11,29 @@ use Rattle.parts.specs.contracts.loss_reader.read_set as read_set
 use Rattle.parts.specs.contracts.loss_reader.check_round as check-round
 use Rattle.parts.specs.contracts.loss_reader.check_losses as check-losses
 
-pub passed-refusal-complete : Complete passed-refusal.ended (λ M. passed-refusal.clauses {M = M})
+pub passed-refusal-complete : Complete passed-refusal.ended (λ M 𝓤. passed-refusal.clauses {M = M} {𝓤 = 𝓤})
 passed-refusal-complete M 𝓤 𝓛 mem run κs a g r s v w = by-facts M 𝓤 _ _ _ (λ p q. (cc, cc))
 
-pub header-refusal-complete : Complete header-refusal.ended (λ M. header-refusal.clauses {M = M})
+pub header-refusal-complete : Complete header-refusal.ended (λ M 𝓤. header-refusal.clauses {M = M} {𝓤 = 𝓤})
 header-refusal-complete M 𝓤 𝓛 mem run κs a g r s v w = by-facts M 𝓤 _ _ _ (λ p q. (cc, cc))
 
-pub edit-refusal-complete : Complete edit-refusal.ended (λ M. edit-refusal.clauses {M = M})
+pub edit-refusal-complete : Complete edit-refusal.ended (λ M 𝓤. edit-refusal.clauses {M = M} {𝓤 = 𝓤})
 edit-refusal-complete M 𝓤 𝓛 mem run κs a g r s v w = by-facts M 𝓤 _ _ _ (λ p q. (cc, cc))
 
-pub read-header-complete : Complete read-header.ended (λ M. read-header.clauses {M = M})
+pub read-header-complete : Complete read-header.ended (λ M 𝓤. read-header.clauses {M = M} {𝓤 = 𝓤})
 read-header-complete M 𝓤 𝓛 mem run κs a g r s v w = by-facts M 𝓤 _ _ _ (λ p q. (cc, cc))
 
-pub read-edit-complete : Complete read-edit.ended (λ M. read-edit.clauses {M = M})
+pub read-edit-complete : Complete read-edit.ended (λ M 𝓤. read-edit.clauses {M = M} {𝓤 = 𝓤})
 read-edit-complete M 𝓤 𝓛 mem run κs a g r s v w = by-facts M 𝓤 _ _ _ (λ p q. (cc, cc))
 
-pub check-edits-complete : Complete check-edits.ended (λ M. check-edits.clauses {M = M})
+pub check-edits-complete : Complete check-edits.ended (λ M 𝓤. check-edits.clauses {M = M} {𝓤 = 𝓤})
 check-edits-complete M 𝓤 𝓛 mem run κs a g r s v w = by-facts M 𝓤 _ _ _ (λ p q. (cc, cc))
 
-pub read-set-complete : Complete read_set.ended (λ M. read_set.clauses {M = M})
+pub read-set-complete : Complete read_set.ended (λ M 𝓤. read_set.clauses {M = M} {𝓤 = 𝓤})
 read-set-complete M 𝓤 𝓛 mem run κs a g r s v w = by-facts M 𝓤 _ _ _ (λ p q. (cc, cc))
 
-pub check-round-complete : Complete check-round.ended (λ M. check-round.clauses {M = M})
+pub check-round-complete : Complete check-round.ended (λ M 𝓤. check-round.clauses {M = M} {𝓤 = 𝓤})
 check-round-complete M 𝓤 𝓛 mem run κs a g r s v w = by-facts M 𝓤 _ _ _ (λ p q. (cc, cc))
 
-pub check-losses-complete : Complete check-losses.ended (λ M. check-losses.clauses {M = M})
+pub check-losses-complete : Complete check-losses.ended (λ M 𝓤. check-losses.clauses {M = M} {𝓤 = 𝓤})
 check-losses-complete M 𝓤 𝓛 mem run κs a g r s v w = by-facts M 𝓤 _ _ _ (λ p q. (cc, cc))

@@ -8,20 +8,20 @@ use record::edits::Edit;
 use record::header::Header;
 
 // A part of the record that was looked through, and where what follows it begins.
-#[derive(Drop)]
+#[derive(Clone, Copy)]
 pub enum Passed {
     To(Cursor),
     Refused(Refusal),
 }
 
-#[derive(Drop)]
+#[derive(Clone, Copy)]
 pub enum HeaderRead {
     // The header, and where the losses begin.
     Header(Header, Cursor),
     Refused(Refusal),
 }
 
-#[derive(Drop)]
+#[derive(Clone, Copy)]
 pub enum EditRead {
     // The edit, and where the next one begins.
     Edit(Edit, Cursor),

@@ -12,29 +12,29 @@ use Rattle.questions.specs.contracts.marks.ask_marks as ask-marks
 use Rattle.questions.specs.contracts.agreed.none_agreed as none-agreed
 use Rattle.questions.specs.contracts.agreed.ask_agreed as ask-agreed
 
-pub is-place-complete : Complete is-place.ended (λ M. is-place.clauses {M = M})
+pub is-place-complete : Complete is-place.ended (λ M 𝓤. is-place.clauses {M = M} {𝓤 = 𝓤})
 is-place-complete M 𝓤 𝓛 mem run κs a g r s v w = by-facts M 𝓤 _ _ _ (λ p q. (p ∙ sym q, refl))
 
-pub none-seen-complete : Complete none_seen.ended (λ M. none_seen.clauses {M = M})
+pub none-seen-complete : Complete none_seen.ended (λ M 𝓤. none_seen.clauses {M = M} {𝓤 = 𝓤})
 none-seen-complete M 𝓤 𝓛 mem run κs a g r s v w = by-facts M 𝓤 _ _ _ (λ p q. (p ∙ sym q, refl))
 
-pub ask-view-into-complete : Complete ask-view-into.ended (λ M. ask-view-into.clauses {M = M})
+pub ask-view-into-complete : Complete ask-view-into.ended (λ M 𝓤. ask-view-into.clauses {M = M} {𝓤 = 𝓤})
 ask-view-into-complete M 𝓤 𝓛 mem run κs a g r s v w = by-facts M 𝓤 _ _ _ (λ p q. (p.answered ∙ sym q.answered, cc))
 
-pub ask-seen-complete : Complete ask-seen.ended (λ M. ask-seen.clauses {M = M})
+pub ask-seen-complete : Complete ask-seen.ended (λ M 𝓤. ask-seen.clauses {M = M} {𝓤 = 𝓤})
 ask-seen-complete M 𝓤 𝓛 mem run κs a g r s v w = by-facts M 𝓤 _ _ _ (λ p q. (p ∙ sym q, refl))
 
-pub ask-standing-complete : Complete ask-standing.ended (λ M. ask-standing.clauses {M = M})
+pub ask-standing-complete : Complete ask-standing.ended (λ M 𝓤. ask-standing.clauses {M = M} {𝓤 = 𝓤})
 ask-standing-complete M 𝓤 𝓛 mem run κs a g r s v w = by-facts M 𝓤 _ _ _ (λ p q. (p ∙ sym q, refl))
 
-pub ask-core-into-complete : Complete ask-core-into.ended (λ M. ask-core-into.clauses {M = M})
+pub ask-core-into-complete : Complete ask-core-into.ended (λ M 𝓤. ask-core-into.clauses {M = M} {𝓤 = 𝓤})
 ask-core-into-complete M 𝓤 𝓛 mem run κs a g r s v w = by-facts M 𝓤 _ _ _ (λ p q. (p.answered ∙ sym q.answered, cc))
 
-pub ask-marks-complete : Complete ask-marks.ended (λ M. ask-marks.clauses {M = M})
+pub ask-marks-complete : Complete ask-marks.ended (λ M 𝓤. ask-marks.clauses {M = M} {𝓤 = 𝓤})
 ask-marks-complete M 𝓤 𝓛 mem run κs a g r s v w = by-facts M 𝓤 _ _ _ (λ p q. (p.answered ∙ sym q.answered, cc))
 
-pub none-agreed-complete : Complete none-agreed.ended (λ M. none-agreed.clauses {M = M})
+pub none-agreed-complete : Complete none-agreed.ended (λ M 𝓤. none-agreed.clauses {M = M} {𝓤 = 𝓤})
 none-agreed-complete M 𝓤 𝓛 mem run κs a g r s v w = by-facts M 𝓤 _ _ _ (λ p q. (p ∙ sym q, refl))
 
-pub ask-agreed-complete : Complete ask-agreed.ended (λ M. ask-agreed.clauses {M = M})
+pub ask-agreed-complete : Complete ask-agreed.ended (λ M 𝓤. ask-agreed.clauses {M = M} {𝓤 = 𝓤})
 ask-agreed-complete M 𝓤 𝓛 mem run κs a g r s v w = by-facts M 𝓤 _ _ _ (λ p q. (p ∙ sym q, refl))

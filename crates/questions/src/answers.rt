@@ -3,7 +3,7 @@
 use farm::refusals::Refusal;
 
 // What the construction settles, beside the core: critical time, kept set and count of steps.
-#[derive(Drop)]
+#[derive(Clone, Copy)]
 pub struct Summary {
     pub critical: i16,
     pub kept: u16,
@@ -11,7 +11,7 @@ pub struct Summary {
 }
 
 // Whether a seat lost a send in any round of the record.
-#[derive(Drop)]
+#[derive(Clone, Copy)]
 pub enum Standing {
     Clean,
     Loser,
@@ -19,7 +19,7 @@ pub enum Standing {
 }
 
 // Whether the answer stands in the buffer that was lent for it.
-#[derive(Drop)]
+#[derive(Clone, Copy)]
 pub enum Given {
     Done,
     Refused(Refusal),
@@ -27,7 +27,7 @@ pub enum Given {
 
 // What a seat has seen: for each seat the latest time or -1 for none, and the known set. The entries from n on
 // are -1. Beside a refusal all of them are, and the set is empty.
-#[derive(Drop)]
+#[derive(Clone, Copy)]
 pub struct Seen {
     pub given: Given,
     pub latest: [i16; 7],
@@ -36,7 +36,7 @@ pub struct Seen {
 
 // What the page says of a place: the settled answer, the core as in `Seen`, and how many edits are in
 // it. Beside a refusal the summary and the count are 0, and the times are all -1.
-#[derive(Drop)]
+#[derive(Clone, Copy)]
 pub struct Agreed {
     pub given: Given,
     pub summary: Summary,

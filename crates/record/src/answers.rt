@@ -3,20 +3,20 @@
 use crate::header::Header;
 use farm::refusals::Refusal;
 
-#[derive(Drop)]
+#[derive(Clone, Copy)]
 pub enum Checked {
     // A good record, and its header.
     Good(Header),
     Refused(Refusal),
 }
 
-#[derive(Drop)]
+#[derive(Clone, Copy)]
 pub enum Judged {
     Accepted,
     Refused(Refusal),
 }
 
-#[derive(Drop)]
+#[derive(Clone, Copy)]
 pub enum Written {
     // How many bytes the record has.
     Length(usize),

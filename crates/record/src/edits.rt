@@ -4,7 +4,7 @@ ghost use Rattle.record.specs.Edits.{rises, follows};
 
 use farm::places::{Seat, Time};
 
-#[derive(Drop)]
+#[derive(Clone, Copy)]
 pub struct Edit {
     pub seat: Seat,
     pub time: Time,
@@ -13,7 +13,7 @@ pub struct Edit {
 }
 
 // The edit that the next one has to come after, or none before the first.
-#[derive(Drop)]
+#[derive(Clone, Copy)]
 pub enum Before {
     Nothing,
     This(Edit),

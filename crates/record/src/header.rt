@@ -1,5 +1,5 @@
 // The four numbers that a record begins with.
-#[derive(Drop)]
+#[derive(Clone, Copy)]
 pub struct Header {
     pub seats: u8,
     pub bound: u8,

@@ -6,7 +6,7 @@ ghost use Rattle.taking.specs.Input.{input_room, next_of};
 // The longest good record, and one byte more: enough to see that a record is too long.
 pub const TAKEN: usize = 4_991;
 
-#[derive(Drop)]
+#[derive(Clone, Copy)]
 pub enum Input {
     // So many bytes, at the front of the buffer.
     Taken(usize),
@@ -14,7 +14,7 @@ pub enum Input {
 }
 
 // What follows an answer of `read`: another read, with so many bytes taken, or the end of the taking.
-#[derive(Drop)]
+#[derive(Clone, Copy)]
 pub enum Next {
     More(usize),
     Over(Input),

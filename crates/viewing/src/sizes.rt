@@ -1,5 +1,5 @@
 // The numbers of a farm, in the order of document 01.
-#[derive(Drop)]
+#[derive(Clone, Copy)]
 pub struct Sizes {
     // n
     pub seats: u8,

@@ -19,13 +19,13 @@ pub const ROOM: usize = MOST_SEATS as usize;
 pub const TABLE: usize = ROOM * ROOM;
 
 // One view: a count for each seat, 0 for every seat from n on.
-#[derive(Drop)]
+#[derive(Clone, Copy)]
 pub struct Counts {
     pub of: [u16; ROOM],
 }
 
 // The views of all seats at one time: seat p's count of seat q stands at p * ROOM + q.
-#[derive(Drop)]
+#[derive(Clone, Copy)]
 pub struct Views {
     pub of: [u16; TABLE],
 }

@@ -4,8 +4,8 @@ use Rattle.farm.proofs.Complete.{Complete, by-facts}
 use Rattle.writing.specs.contracts.lists.length as length
 use Rattle.writing.specs.contracts.lists.write as write
 
-pub length-complete : Complete length.ended (λ M. length.clauses {M = M})
+pub length-complete : Complete length.ended (λ M 𝓤. length.clauses {M = M} {𝓤 = 𝓤})
 length-complete M 𝓤 𝓛 mem run κs a g r s v w = by-facts M 𝓤 _ _ _ (λ p q. (cc, cc))
 
-pub write-complete : Complete write.ended (λ M. write.clauses {M = M})
+pub write-complete : Complete write.ended (λ M 𝓤. write.clauses {M = M} {𝓤 = 𝓤})
 write-complete M 𝓤 𝓛 mem run κs a g r s v w = by-facts M 𝓤 _ _ _ (λ p q. (cc, cc))
