@@ -19,19 +19,19 @@ pub returns-then-count-eq0 : goal.returns-then-count-eq0
 returns-then-count-eq0 c =
     let read = to_z-of_z w64 c.args.got c.ranges.got in
     let came = (counted _ c.args.got (rw read at c.if-got-lt0.false) c.requires.1).0 in
-    let is = ended _ _ _ came (rw read at c.if-count-eq0.true) in
+    let is = ended c.args.taken _ c.args.got came (rw read at c.if-count-eq0.true) in
     cc
 
 pub returns-then-now-lt-TAKEN : goal.returns-then-now-lt-TAKEN
 returns-then-now-lt-TAKEN c =
     let read = to_z-of_z w64 c.args.got c.ranges.got in
     let came = (counted _ c.args.got (rw read at c.if-got-lt0.false) c.requires.1).0 in
-    let is = more _ _ _ came (rw read at c.if-count-eq0.false) (rw read at c.if-now-lt-TAKEN.true) in
+    let is = more c.args.taken _ c.args.got came (rw read at c.if-count-eq0.false) (rw read at c.if-now-lt-TAKEN.true) in
     cc
 
 pub returns : goal.returns
 returns c =
     let read = to_z-of_z w64 c.args.got c.ranges.got in
     let came = (counted _ c.args.got (rw read at c.if-got-lt0.false) c.requires.1).0 in
-    let is = full _ _ _ came (rw read at c.if-count-eq0.false) (rw read at c.if-now-lt-TAKEN.false) in
+    let is = full c.args.taken _ c.args.got came (rw read at c.if-count-eq0.false) (rw read at c.if-now-lt-TAKEN.false) in
     cc
