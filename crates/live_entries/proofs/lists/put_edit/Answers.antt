@@ -1,6 +1,5 @@
 -- `live_entries::lists::put_edit` meets its contract: one entry put into each of four lists.
 -- Assumes nothing.
-use borrow.Author.Rules.{rules}
 use native.Mathlib.Omega.{arith}
 use mathlib.Core.Path.{◌∙◌, ap}
 use lib.IntN.{ℤ}
@@ -8,10 +7,9 @@ use lib.ListN.{set}
 use mir.Syntax.{w16}
 use mir.ValLaws.{to_z-of_z}
 use Rattle.live_table.proofs.ListLaws.{over-one}
-use Rattle.live_entries.proofs.lists.put_edit.Statement.{statement}
-use Rattle.live_entries.proofs.lists.put_edit.Tie as tie
+use Rattle.live_entries.proofs.lists.put_edit.Goals as goal
 
-returns : tie.Need-returns
+pub returns : goal.returns
 returns c =
     let a = c.args in
     let room = c.requires in (
@@ -20,9 +18,3 @@ returns c =
       over-one a.at a.cell a.cells.now (omega arith),
       ap (λ (z : ℤ). set a.changes.now a.at z) (to_z-of_z w16 a.change c.ranges.change) ∙ over-one a.at a.change a.changes.now (omega arith),
     )
-
-pub put-edit-spec : {M : Type 1} → statement M
-put-edit-spec =
-    tie.close
-    (tie.spec (λ c. search rules) (λ c. search rules) (λ c. search rules) (λ c. search rules) (λ c. search rules) (λ c. search rules) (λ c. search rules)
-    (λ c. search rules) (λ c. search rules) (λ c. search rules) (λ c. search rules) returns)
