@@ -1,4 +1,2 @@
-pub mod Live
-pub mod Stepped
 pub mod ContractRuns
 pub mod CompleteLaws
