@@ -1,5 +1,3 @@
 pub mod WideLaws
-pub mod Lending
-pub mod Handing
 pub mod CompleteLaws
 pub mod Runs
