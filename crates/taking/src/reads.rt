@@ -1,7 +1,6 @@
 // What follows an answer of `read`, until the room for a record is full or the input ends.
 ghost use Rattle.std.specs.Prelude.{◌≡◌, ◌+◌, length};
-ghost use Rattle.libc.specs.Io.{Moved};
-ghost use Rattle.taking.specs.Input.{input_room, next_of};
+ghost use Rattle.taking.specs.Input.{Moved, input_room, next_of};
 
 // The longest good record, and one byte more: enough to see that a record is too long.
 pub const TAKEN: usize = 4_991;
@@ -28,7 +27,7 @@ pub fn after_read(taken: usize, rest: &[u8], got: isize) -> Next
     if got < 0 {
         return Next::Over(Input::Unreadable);
     }
-    let count = io::count(got, rest);
+    let count = got as usize;
     let now = taken + count;
     if count == 0 {
         return Next::Over(Input::Taken(now));

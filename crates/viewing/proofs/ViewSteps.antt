@@ -74,15 +74,15 @@ next-turn n heard p q k table own kept received result e f g h = h ∙ (rw (f, e
 -- ════ Places in the table of all views ════
 
 -- What stands at p * room + q.
-pub count_at : (farm : Farm) (k p q : ℕ) → q < room → count_at farm k (p * room + q) ≡ below farm.seats (view farm p k) q
+pub count-at : (farm : Farm) (k p q : ℕ) → q < room → count_at farm k (p * room + q) ≡ below farm.seats (view farm p k) q
 unfolding count_at
-count_at farm k p q h =
+count-at farm k p q h =
     let row : (p * room + q) / room ≡ p = omega arith in
     let column : (p * room + q) % room ≡ q = omega arith in
     rw (row, column) refl
 
 pub count-at-seat : (farm : Farm) (k p q : ℕ) → farm.seats ≤ room → q < farm.seats → count_at farm k (p * room + q) ≡ view farm p k q
-count-at-seat farm k p q small h = count_at farm k p q (omega arith) ∙ below_in farm.seats (view farm p k) q h
+count-at-seat farm k p q small h = count-at farm k p q (omega arith) ∙ below_in farm.seats (view farm p k) q h
 
 -- Between the last seat and the end of p's part stands 0.
 pub count_past : (farm : Farm) (k p j : ℕ) → p * room + farm.seats ≤ j → j < p * room + room → count_at farm k j ≡ 0
