@@ -1,0 +1,23 @@
+-- `reading::tables::read` meets its contract: too little room is found first, and the fill only starts once the record is found good.
+-- Assumes nothing.
+use Rattle.reading.proofs.ReadLaws.{no_room, refused-reading, accepted-reading, good-reading}
+use Rattle.record.specs.Tables.{roomy}
+use mathlib.Core.Path.{sym, ◌∙◌}
+use Rattle.reading.proofs.tables.read.Goals as goal
+
+pub returns-then-not-has_room : goal.returns-then-not-has_room
+unfolding roomy
+returns-then-not-has_room c = no_room _ _ (sym c.has_room.ensures ∙ c.if-not-has_room.true)
+
+-- The tables at the call have room once the test is passed.
+pub returns-in_default : goal.returns-in_default
+unfolding roomy
+returns-in_default c = refused-reading _ _ _ _ (sym c.has_room.ensures ∙ c.if-not-has_room.false) c.check-checked.ensures c.in_default.is
+
+pub fill-requires : goal.fill-requires
+unfolding roomy
+fill-requires c = (accepted-reading _ _ _ c.check-checked.ensures c.in-Good.is, sym c.has_room.ensures ∙ c.if-not-has_room.false)
+
+pub returns : goal.returns
+unfolding roomy
+returns c = good-reading _ _ _ _ (sym c.has_room.ensures ∙ c.if-not-has_room.false) c.fill.ensures.0 c.fill.ensures.1
