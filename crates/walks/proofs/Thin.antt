@@ -7,9 +7,9 @@ use Prim.Native.Nat.{ℕ, zero, suc}
 use mathlib.Core.Option.{some as just}
 use mathlib.Core.List.{List, [], ◌∷◌, ◌++◌}
 use seplogic.Ra.Ura.{Ura}
-use seplogic.Ra.TreeShare.{full_share}
+use base.Fraction.{full_share}
 use lib.Dec.{T as Holds}
-use mir.Syntax.{Sym, Name, Ty, Tys, tcons, tnil, ty_struct, ty_ref, named, mut, deref, field, place, copy, rv_opd, assign, call, return, seq, local, value_local, Fn}
+use mir.Syntax.{Sym, Callee, Ty, Tys, tcons, tnil, ty_struct, ty_ref, named, mut, deref, field, place, copy, rv_opd, assign, call, return, seq, local, value_local, Fn}
 use mir.Raw.{raw as raw_ty}
 use mir.Val.{Val, vptr, vstruct, vcons, vnil, WT, has_ty}
 use base.Logic.{SProp, ent, sep, ex, guard, id⊢}
@@ -23,7 +23,7 @@ use types.Part.{whole, sub, look_in}
 use sound.WpLaws.{FmC}
 use denote.Laws.{Typed}
 use denote.Triple.Call.{calls_from}
-use Rattle.walks.proofs.Frames.{locals, copies, past, stands, behind, after, from_at, allocs-all, passes-all, frees_all, operands}
+use Rattle.walks.proofs.Frames.{env, locals, copies, past, stands, behind, after, from_at, allocs-all, passes-all, frees_all, operands}
 
 -- the value has the type
 abbrev pub Of : Ty → Val → Type 0
@@ -34,10 +34,12 @@ abbrev pub two : Ty → Ty → Tys
 two δ τ = tcons δ (tcons τ tnil)
 
 -- π is the table's type as it is written behind a reference, τ as it lies there; δ is the answer's, and ν the name of the struct of both. n and k count lifetimes and parameters
-abbrev pub changing : (n k : ℕ) (ν : Sym) (δ τ π : Ty) (τs : List Ty) → Name → Fn
+abbrev pub changing : (n k : ℕ) (ν : Sym) (δ τ π : Ty) (τs : List Ty) → Callee → Fn
 changing n k ν δ τ π τs g = record {
   lifetimes = n;
   outlives = [];
+  ty_params = [];
+  givens = 0;
   params = k;
   locals = local δ value_local ∷ local (ty_ref (named 0) mut π) value_local ∷ locals τs (local (ty_struct ν (two δ τ)) value_local ∷ local τ value_local ∷ []);
   body = seq (assign (place (suc (suc (past 1 τs))) []) (rv_opd (copy (place 1 (deref τ ∷ [])))))
@@ -49,7 +51,7 @@ changing n k ν δ τ π τs g = record {
 module _ {M : Type 1} {𝓤 : Ura M} (𝓛 : Logic 𝓤) (C : Calls 𝓤 𝓛.H) (Λ : Loops 𝓤 𝓛.H) (fm : FmC 𝓤 𝓛.H 𝓛.laws C) where
   open 𝓛 use {H}
 
-  pub changes : (n k : ℕ) (ν : Sym) (δ τ π : Ty) (τs : List Ty) (g : Name) (i j : ℕ) → field_at zero (two δ τ) 0 ≡ just (δ, i) → field_at zero (two δ τ) 1 ≡ just (τ, j)
+  pub changes : (n k : ℕ) (ν : Sym) (δ τ π : Ty) (τs : List Ty) (g : Callee) (i j : ℕ) → field_at zero (two δ τ) 0 ≡ just (δ, i) → field_at zero (two δ τ) 1 ≡ just (τ, j)
       → (b o : ℕ) (v : Val) (us : List Val) → Typed τs us → (P Q F : SProp 𝓤) (Ret Out : Val → SProp 𝓤) (Z : Type 0) (d t : Z → Val) (G : Z → SProp 𝓤)
       → ent 𝓤 P (H.⇛ (sep 𝓤 (H.at full_share (raw_ty τ) b o v) (sep 𝓤 Q F)))
       → ent 𝓤 Q (C g (v ∷ (us ++ [])) Ret)
@@ -66,7 +68,7 @@ module _ {M : Type 1} {𝓤 : Ura M} (𝓛 : Logic 𝓤) (C : Calls 𝓤 𝓛.H)
       -- [the table's cell; Q; F; the parameters; room for the copy; …; room for the step; …; table; …; room for the result; …]
       assigns ! (of_opd ! (load ! (from ! (hop ! (look ! 8 refl) (stop !))) (look ! 0 refl))) (from_at ! (after 1 τs bs _) (stop !)) (init ! 4 refl wt) $
       move ! (1 ∷ []) $ calls_from ! fm (raw Q) (v ∷ (us ++ [])) Ret met
-      (and_then ! (load ! (from_at ! (after 1 τs bs _) (stop !)) (look ! 4 refl)) (operands ! 3 _ 2 τs bs us ty (behind _ _ 1 τs bs (behind _ _ 0 τs bs (stands τs bs _))) refl (no_more !))) (λ w.
+      (and_then ! (load ! (from_at ! (after 1 τs bs _) (stop !)) (look ! 4 refl)) (operands ! 3 _ 2 τs bs us ty (behind _ ((ty_ref (named 0) mut π, l₁) ∷ env τs bs ((ty_struct ν (two δ τ), l₂) ∷ (τ, l₃) ∷ [])) 1 τs bs (behind (ty_ref (named 0) mut π, l₁) (env τs bs ((ty_struct ν (two δ τ), l₂) ∷ (τ, l₃) ∷ [])) 0 τs bs (stands τs bs ((ty_struct ν (two δ τ), l₂) ∷ (τ, l₃) ∷ [])))) refl (no_more !))) (λ w.
       move ! (0 ∷ 2 ∷ []) $ use2 𝓛 (later (some (λ (z : Z). given ((w ≡ vstruct (vcons (d z) (vcons (t z) vnil))) × Of (ty_struct ν (two δ τ)) w × Of δ (d z) × Of τ (t z)) (raw (G z))))) (back w) $ await ! tt $ pick ! (λ z. learn ! (λ is.
       -- [G; the table's cell; the parameters; the copy; …; room for the step; …; table; …; room for the result; …]
       land ! (from_at ! (after 0 τs bs _) (stop !)) (init ! 5 refl is.1) $ rewrite ! 5 (λ (u : Val). ‵ (fat full_share (ty_struct ν (two δ τ)) l₂ 0 u)) is.0 refl $
