@@ -9,8 +9,8 @@ use Prim.Native.Nat.{ℕ, zero, suc}
 use mathlib.Core.Option.{some as just}
 use mathlib.Core.List.{List, [], ◌∷◌, append-nil}
 use seplogic.Ra.Ura.{Ura}
-use seplogic.Ra.TreeShare.{full_share}
-use mir.Syntax.{Sym, Name, Ty, named, ty_struct}
+use base.Fraction.{full_share}
+use mir.Syntax.{Sym, Callee, Ty, named, ty_struct}
 use mir.Raw.{raw as raw_ty}
 use mir.Val.{Val, vptr, vstruct, vcons, vnil}
 use base.Logic.{SProp, ent, sep, ex, guard}
@@ -19,7 +19,7 @@ use prog.Memory.{field_at}
 use prog.Wp.{Tables, WpFn}
 use types.Logic.{Logic, sem}
 use contract.Lifetimes.{Lfts, Shares, toks}
-use types.Kit.{‵, raw, some, later, ◌⊛◌, ◌$◌, ◌∵◌, !, qed, by, move, keep, drop, use1, split, join, split3, pick, fsplit, fsplit3, fjoin, frame, await, updating, now as at_once, show, check, recast, done}
+use types.Kit.{‵, raw, some, later, ◌⊛◌, ◌$◌, ◌∵◌, !, qed, by, move, drop, use1, split, join, split3, pick, fsplit, fsplit3, fjoin, frame, await, updating, now as at_once, show, check, recast, done}
 use types.SemTy.{Body}
 use sound.WpLaws.{fm_of}
 use denote.RattleType.{RattleType, Valss, flat, owns}
@@ -90,7 +90,7 @@ module _ {M : Type 1} {𝓤 : Ura M} (𝓛 : Logic 𝓤) (TT : Declared) (L : LL
     pub says : (κs : Lfts (suc m)) (a : Args T.signature κs) (g : (c κs a).ghost) (s : S.Denot) (ws : Lasts T' κs.1 (to κs a))
         → ent 𝓤 ((c' κs.1 (to κs a)).ensures (ghost κs a g) s (at_exit T' κs.1 (to κs a) ws)) ((c κs a).ensures g (st.answer s) (at_exit T κs a (st.table s, hd.fins κs κs.0 a.1 ws.1)))
 
-  module _ (ag : Agrees) (f : Name) (k : ℕ) (𝓣 : Tables 𝓤 H) (met : Triple 𝓤 (𝓣.C f) (triple_of 𝓛 T'.signature (closing 𝓛 T' c'))) where
+  module _ (ag : Agrees) (f : Callee) (k : ℕ) (𝓣 : Tables 𝓤 H) (met : Triple 𝓤 (𝓣.C f) (triple_of 𝓛 T'.signature (closing 𝓛 T' c'))) where
     module _ (κs : Lfts (suc m)) (qs : Shares (suc m)) (a : Args T.signature κs) (vss : Valss (types_at ps κs)) (g : (c κs a).ghost) where
       abbrev b : ℕ
       b = a.0.ref_ptr.0
@@ -151,7 +151,7 @@ module _ {M : Type 1} {𝓤 : Ura M} (𝓛 : Logic 𝓤) (TT : Declared) (L : LL
 
       back : (w : Val) → ent 𝓤 (sep 𝓤 ((triple_of 𝓛 T'.signature (closing 𝓛 T' c')).post y' w) Kept) (H.⇛ (ex 𝓤 (λ (z : Z). guard 𝓤 (Fits w z) (Left z))))
       back w =
-          qed 𝓛 (later (some (λ (s : S.Denot). (raw (toks 𝓛 m κs.1 qs.1) ⊛ ‵ (S.own s (w ∷ []))) ⊛ some (λ (ws : Lasts T' κs.1 (to κs a)). ‵ (lasts T' κs.1 (to κs a) ws) ⊛ raw (Said s ws)))) ∷ raw Kept ∷ []) ∵ updating ! $ await ! tt $ pick ! (λ s.
+          qed 𝓛 (later (some (λ (s : S.Denot). (raw (toks 𝓛 m κs.1 qs.1) ⊛ ‵ (S.own_val s (w ∷ []))) ⊛ some (λ (ws : Lasts T' κs.1 (to κs a)). ‵ (lasts T' κs.1 (to κs a) ws) ⊛ raw (Said s ws)))) ∷ raw Kept ∷ []) ∵ updating ! $ await ! tt $ pick ! (λ s.
           split ! $ move ! (1 ∷ []) $ pick ! (λ ws. move ! (1 ∷ []) $ split ! $ move ! (1 ∷ []) $ peeks ! S (Is S) (shows 𝓛 S) s (w ∷ []) (λ is. drop ! $ at_once ! $
           show ! (λ (z : Z). guard 𝓤 (Fits w z) (Left z)) (s, w, is, ws) $ check ! (st.spelled s w is, (st.typed s w is).0, (st.typed s w is).1, (st.typed s w is).2) $
           -- [the tokens; what the step ensures; the open borrow]
@@ -166,7 +166,7 @@ module _ {M : Type 1} {𝓤 : Ura M} (𝓛 : Logic 𝓤) (TT : Declared) (L : LL
           move ! (2 ∷ 3 ∷ []) $ join ! $ owned ! X (Is X) st.makes (st.answer s) _ (st.answered s w is) $ move ! (1 ∷ 0 ∷ []) $ join ! $ frame ! $
           show ! (λ (us : Lasts T κs a). sep 𝓤 (sem 𝓛 (lasts T κs a us)) ((c κs a).ensures g (st.answer s) (at_exit T κs a us))) (st.table s, hd.fins κs κs.0 a.1 ws.1) $
           move ! (2 ∷ []) $ fsplit ! $ drop ! $ recast 𝓛 (‵ (lasts_of κs ps ks a.1 (hd.fins κs κs.0 a.1 ws.1))) (λ i. sem 𝓛 (hd.lasts κs κs.0 a.1 ws.1 i)) $
-          move ! (1 ∷ []) $ use1 𝓛 (‵ (fres γ (R.coded.code (st.table s)))) (𝓛.names.obs-res γ (R.coded.code (st.table s))) $ move ! (0 ∷ 1 ∷ []) $ fjoin ! $ frame ! $ keep ! (1 ∷ []) $ by ! (ag.says κs a g s ws)
+          move ! (1 ∷ []) $ use1 𝓛 (‵ (fres γ (R.coded.code (st.table s)))) (𝓛.names.obs-res γ (R.coded.code (st.table s))) $ move ! (0 ∷ 2 ∷ []) $ fjoin ! $ fjoin ! $ frame ! $ by ! (ag.says κs a g s ws)
 
       core : Typed τs (flat (types_at ps κs) vss) → ent 𝓤 Pre (WpFn 𝓤 H 𝓣.C 𝓣.Λ (changing (suc m) k st.title st.told (lies TT) (pointee R.written) τs f) (vptr b o ∷ flat (types_at ps κs) vss) ((triple_of 𝓛 T.signature (closing 𝓛 T c)).post ((κs, qs, tt, a, (vptr b o ∷ [], vss)), g)))
       core ty = subst (λ (us : List Val). ent 𝓤 Pre (WpFn 𝓤 H 𝓣.C 𝓣.Λ (changing (suc m) k st.title st.told (lies TT) (pointee R.written) τs f) (vptr b o ∷ us) ((triple_of 𝓛 T.signature (closing 𝓛 T c)).post ((κs, qs, tt, a, (vptr b o ∷ [], vss)), g)))) (append-nil (flat (types_at ps κs) vss))

@@ -6,6 +6,8 @@ use mathlib.Core.List.{[], ◌∷◌, map}
 use mir.Syntax.{Width}
 use mir.Val.{vint, of_z}
 use denote.Array.{Array, array_val, Array-Tells, Array-Lawful, Array-Makes}
+use base.Fraction.{full_share}
+use denote.Copied.{uint_Copied, sint_Copied, Array-Copied}
 use denote.Plain.{UInt, uint_Tells, uint_Lawful, uint_Makes}
 use denote.Signed.{SInt, sint_Tells, sint_Lawful, sint_Makes}
 use Rattle.walks.proofs.Loans.{Part}
@@ -20,6 +22,7 @@ number w k d = record {
   one = refl;
   typed = λ M 𝓤 𝓛 x v is. ((uint_Lawful 𝓛 w).typed x (v ∷ []) is).0;
   makes = λ M 𝓤 𝓛. uint_Makes 𝓛 w;
+  lends = λ M 𝓤 𝓛. (uint_Copied 𝓛 w).lends full_share;
 }
 
 abbrev pub numbers : (w : Width) (n k d : ℕ) → Part
@@ -32,6 +35,7 @@ numbers w n k d = record {
   one = refl;
   typed = λ M 𝓤 𝓛 x v is. ((Array-Lawful 𝓛 (UInt w) (uint_Lawful 𝓛 w) n).typed x (v ∷ []) is).0;
   makes = λ M 𝓤 𝓛. Array-Makes 𝓛 (UInt w) (uint_Makes 𝓛 w) n;
+  lends = λ M 𝓤 𝓛. (Array-Copied 𝓛 (UInt w) (uint_Copied 𝓛 w) tt n).lends full_share;
 }
 
 abbrev pub integers : (w : Width) (n k d : ℕ) → Part
@@ -44,4 +48,5 @@ integers w n k d = record {
   one = refl;
   typed = λ M 𝓤 𝓛 x v is. ((Array-Lawful 𝓛 (SInt w) (sint_Lawful 𝓛 w) n).typed x (v ∷ []) is).0;
   makes = λ M 𝓤 𝓛. Array-Makes 𝓛 (SInt w) (sint_Makes 𝓛 w) n;
+  lends = λ M 𝓤 𝓛. (Array-Copied 𝓛 (SInt w) (sint_Copied 𝓛 w) tt n).lends full_share;
 }

@@ -56,7 +56,7 @@ Law R = (M : Type 1) (𝓤 : Ura M) (𝓛 : Logic 𝓤) → Lawful 𝓛 R
 -- one parameter in front. r is its type for the caller and r' for the callee, which differ in the MIR type only, since a lifetime has another number there
 pub record Same (r r' : RattleType) : Type 2 where
   pub arg : r.Denot → r'.Denot
-  pub same-own : (x : r.Denot) (vs : List Val) → r.own x vs ≡ r'.own (arg x) vs
+  pub same-own : (x : r.Denot) (vs : List Val) → r.own_val x vs ≡ r'.own_val (arg x) vs
   pub fin : (x : r.Denot) → Last (r'.exit yes) (arg x) → Last (r.exit yes) x
   pub last : (x : r.Denot) (w : Last (r'.exit yes) (arg x)) → left (r'.exit yes) (arg x) w ≡ left (r.exit yes) x (fin x w)
 
@@ -90,9 +90,9 @@ module _ {m l : ℕ} {ps : List (Slot (suc m))} {ks : Kepts ps} {ps' : List (Slo
   abbrev pub shared : (j : ℕ) (ok : Within m j) (R : RattleType) → Handed m l ps ks ps' ks' τs
       → Handed m l (shr_slice (suc j) ok (λ _. R) ∷ ps) (yes, ks) (shr_slice (plus l j) (past-ok l m j ok) (λ _. R) ∷ ps') (yes, ks') ((ShrSlice (named (suc j)) [] R).mir ++ τs)
   shared j ok R = front (shr_slice (suc j) ok (λ _. R)) (shr_slice (plus l j) (past-ok l m j ok) (λ _. R)) (ShrSlice (named (suc j)) [] R).mir (λ κs. refl) (λ κs M 𝓤 𝓛. shr_slice_Lawful 𝓛 (named (suc j)) (lft_at m j ok κs.1) R)
-      (λ κs κ. record { arg = λ x. x; same-own = λ x vs. ap (λ (β : Lft). (ShrSlice (named (suc j)) β R).own x vs) (sym (past-lft l m j ok κ κs.1)); fin = λ x w. w; last = λ x w. refl })
+      (λ κs κ. record { arg = λ x. x; same-own = λ x vs. ap (λ (β : Lft). (ShrSlice (named (suc j)) β R).own_val x vs) (sym (past-lft l m j ok κ κs.1)); fin = λ x w. w; last = λ x w. refl })
 
   abbrev pub lent : (j : ℕ) (ok : Within m j) (R : RattleType) → Handed m l ps ks ps' ks' τs
       → Handed m l (mut_slice (suc j) ok (λ _. R) ∷ ps) (yes, ks) (mut_slice (plus l j) (past-ok l m j ok) (λ _. R) ∷ ps') (yes, ks') ((MutSlice (named (suc j)) [] R).mir ++ τs)
   lent j ok R = front (mut_slice (suc j) ok (λ _. R)) (mut_slice (plus l j) (past-ok l m j ok) (λ _. R)) (MutSlice (named (suc j)) [] R).mir (λ κs. refl) (λ κs M 𝓤 𝓛. mut_slice_Lawful 𝓛 (named (suc j)) (lft_at m j ok κs.1) R)
-      (λ κs κ. record { arg = λ x. x; same-own = λ x vs. ap (λ (β : Lft). (MutSlice (named (suc j)) β R).own x vs) (sym (past-lft l m j ok κ κs.1)); fin = λ x w. w; last = λ x w. refl })
+      (λ κs κ. record { arg = λ x. x; same-own = λ x vs. ap (λ (β : Lft). (MutSlice (named (suc j)) β R).own_val x vs) (sym (past-lft l m j ok κ κs.1)); fin = λ x w. w; last = λ x w. ap (λ (β : Lft). left ((MutSlice (named (suc j)) β R).exit yes) x w) (past-lft l m j ok κ κs.1) })

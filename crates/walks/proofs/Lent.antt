@@ -3,12 +3,12 @@
 --     Agrees       from f's contract to g's.        lent       the theorem. g's first l lifetimes are those of the fields that are lent, and its others are f's others
 -- Assumes nothing.
 use mathlib.Core.Path.{◌≡◌, sym, ◌∙◌, ap, subst}
-use Prim.Native.Nat.{ℕ, zero, suc, ◌+◌}
+use Prim.Native.Nat.{ℕ, zero, suc}
 use mathlib.Core.List.{List, [], ◌∷◌, ◌++◌, append-nil}
 use seplogic.Ra.Ura.{Ura}
-use seplogic.Ra.TreeShare.PosShare
-use seplogic.Ra.TreeShare.{full_share}
-use mir.Syntax.{Name, Fn, Ty, ty_struct, named, mut}
+use base.Share
+use base.Fraction.{full_share}
+use mir.Syntax.{Callee, Fn, Ty, ty_struct, named, mut}
 use mir.Raw.{raw as raw_ty}
 use mir.Val.{Val, Vals, vptr, vstruct}
 use base.Logic.{SProp, ent, sep, ex, all, wand, guard, ex_e, ex_i, via, mono_l, id⊢, all_e, apply∗}
@@ -17,7 +17,7 @@ use prog.Model.{fields_at}
 use prog.Wp.{Tables, WpFn}
 use types.Logic.{Logic, sem}
 use contract.Lifetimes.{Lfts, Shares, toks}
-use types.Kit.{‵, raw, some, given, later, ◌⊛◌, ◌$◌, ◌∵◌, !, qed, by, move, keep as hold, drop, use1, use2, use3, split, split3, join, pick, learn, recast, fsplit, fsplit3, fjoin, frame, await, updating, now as at_once, show, check, done}
+use types.Kit.{‵, raw, some, given, later, ◌⊛◌, ◌$◌, ◌∵◌, !, qed, by, move, drop, use1, use2, use3, split, split3, join, pick, learn, recast, fsplit, fsplit3, fjoin, frame, await, updating, now as at_once, show, check, done}
 use types.SemTy.{Body}
 use types.Tokens.{lft_new, lft_end}
 use sound.WpLaws.{fm_of}
@@ -46,24 +46,24 @@ use Rattle.walks.proofs.Handed.{Handed, plus, ats}
 -- shares of the tokens of the callee's lifetimes: those of the lent parts are cut from the token of the one that is made, and what is left of it stays here
 abbrev pub shares_of : (l m : ℕ) → Share → Shares m → Shares (plus l m)
 shares_of zero m s qs = qs
-shares_of (suc l) m s qs = (PosShare.left s, shares_of l m (PosShare.right s) qs)
+shares_of (suc l) m s qs = (Share.left s, shares_of l m (Share.right s) qs)
 
 abbrev pub rest_of : ℕ → Share → Share
 rest_of zero s = s
-rest_of (suc l) s = rest_of l (PosShare.right s)
+rest_of (suc l) s = rest_of l (Share.right s)
 
 module _ {M : Type 1} {𝓤 : Ura M} (𝓛 : Logic 𝓤) (m : ℕ) (α : Lft) (κs : Lfts m) (qs : Shares m) where
   open 𝓛 use {A}
 
   pub cut-toks : (l : ℕ) (s : Share) → ent 𝓤 (sep 𝓤 (A.lft α s) (toks 𝓛 m κs qs)) (sep 𝓤 (A.lft α (rest_of l s)) (toks 𝓛 (plus l m) (ats l m α κs) (shares_of l m s qs)))
   cut-toks zero s = id⊢ 𝓤 _
-  cut-toks (suc l) s = qed 𝓛 (‵ (flft α s) ∷ raw (toks 𝓛 m κs qs) ∷ []) ∵ use1 𝓛 (‵ (flft α (PosShare.left s)) ⊛ ‵ (flft α (PosShare.right s))) (𝓛.lfts.lft_split α s) $ split ! $
-      move ! (1 ∷ 2 ∷ []) $ use2 𝓛 (‵ (flft α (rest_of l (PosShare.right s))) ⊛ raw (toks 𝓛 (plus l m) (ats l m α κs) (shares_of l m (PosShare.right s) qs))) (cut-toks l (PosShare.right s)) $ split ! $ frame ! $ move ! (1 ∷ 0 ∷ []) $ done !
+  cut-toks (suc l) s = qed 𝓛 (‵ (flft α s) ∷ raw (toks 𝓛 m κs qs) ∷ []) ∵ use1 𝓛 (‵ (flft α (Share.left s)) ⊛ ‵ (flft α (Share.right s))) (𝓛.lfts.lft_split α s) $ split ! $
+      move ! (1 ∷ 2 ∷ []) $ use2 𝓛 (‵ (flft α (rest_of l (Share.right s))) ⊛ raw (toks 𝓛 (plus l m) (ats l m α κs) (shares_of l m (Share.right s) qs))) (cut-toks l (Share.right s)) $ split ! $ frame ! $ move ! (1 ∷ 0 ∷ []) $ done !
 
   pub join-toks : (l : ℕ) (s : Share) → ent 𝓤 (sep 𝓤 (A.lft α (rest_of l s)) (toks 𝓛 (plus l m) (ats l m α κs) (shares_of l m s qs))) (sep 𝓤 (A.lft α s) (toks 𝓛 m κs qs))
   join-toks zero s = id⊢ 𝓤 _
-  join-toks (suc l) s = qed 𝓛 (‵ (flft α (rest_of l (PosShare.right s))) ∷ ‵ (flft α (PosShare.left s)) ∷ raw (toks 𝓛 (plus l m) (ats l m α κs) (shares_of l m (PosShare.right s) qs)) ∷ []) ∵ move ! (0 ∷ 2 ∷ []) $
-      use2 𝓛 (‵ (flft α (PosShare.right s)) ⊛ raw (toks 𝓛 m κs qs)) (join-toks l (PosShare.right s)) $ split ! $ move ! (2 ∷ 0 ∷ []) $ use2 𝓛 (‵ (flft α s)) (𝓛.lfts.lft_join α s) $ frame ! $ done !
+  join-toks (suc l) s = qed 𝓛 (‵ (flft α (rest_of l (Share.right s))) ∷ ‵ (flft α (Share.left s)) ∷ raw (toks 𝓛 (plus l m) (ats l m α κs) (shares_of l m (Share.right s) qs)) ∷ []) ∵ move ! (0 ∷ 2 ∷ []) $
+      use2 𝓛 (‵ (flft α (Share.right s)) ⊛ raw (toks 𝓛 m κs qs)) (join-toks l (Share.right s)) $ split ! $ move ! (2 ∷ 0 ∷ []) $ use2 𝓛 (‵ (flft α s)) (𝓛.lfts.lft_join α s) $ frame ! $ done !
 
 -- the shape of the contract of a function on the parts
 abbrev pub Doer : (n : ℕ) (pt : Parts n) (ps : List (Slot n)) → Kepts ps → RattleType → Ended
@@ -96,7 +96,7 @@ module _ {M : Type 1} {𝓤 : Ura M} (𝓛 : Logic 𝓤) (TT : Declared) (L : LL
     pub says : (κs : Lfts (suc m)) (a : Args T.signature κs) (κ : Lft) (γs : Names pt) (g : (c κs a).ghost) (r : X.Denot) (ws : Lasts T' (ats l m κ κs.1) (to κs a κ γs))
         → ent 𝓤 ((c' (ats l m κ κs.1) (to κs a κ γs)).ensures (ghost κs a κ γs g) r (at_exit T' (ats l m κ κs.1) (to κs a κ γs) ws)) ((c κs a).ensures g r (at_exit T κs a (end κs a κ γs ws)))
 
-  module _ (ends : (α : Lft) (κs : Lfts m) → Ends (ats l m α κs) α pt) (ag : Agrees) (f : Name) (k : ℕ) (𝓣 : Tables 𝓤 H) (met : Triple 𝓤 (𝓣.C f) (triple_of 𝓛 T'.signature (closing 𝓛 T' c'))) where
+  module _ (ends : (α : Lft) (κs : Lfts m) → Ends (ats l m α κs) α pt) (ag : Agrees) (f : Callee) (k : ℕ) (𝓣 : Tables 𝓤 H) (met : Triple 𝓤 (𝓣.C f) (triple_of 𝓛 T'.signature (closing 𝓛 T' c'))) where
     abbrev code : Fn
     code = picking (suc m) k mut δ (ty_struct TT.name (tys-of pt)) (pointee (row TT).written) τs (picks_of pt) f
 
@@ -210,7 +210,7 @@ module _ {M : Type 1} {𝓤 : Ura M} (𝓛 : Logic 𝓤) (TT : Declared) (L : LL
 
       back : (w : Val) → ent 𝓤 (Given' w) (H.⇛ (guard 𝓤 (Of δ w) (Out w)))
       back w =
-          qed 𝓛 (some (λ (α : ℕ). some (λ (γs : Names pt). later (some (λ (r : X.Denot). (raw (toks 𝓛 (plus l m) (at α) (shares_of l m full_share qs.1)) ⊛ ‵ (X.own r (w ∷ []))) ⊛
+          qed 𝓛 (some (λ (α : ℕ). some (λ (γs : Names pt). later (some (λ (r : X.Denot). (raw (toks 𝓛 (plus l m) (at α) (shares_of l m full_share qs.1)) ⊛ ‵ (X.own_val r (w ∷ []))) ⊛
           some (λ (ws : Lasts T' (at α) (to κs a (α ∷ []) γs)). ‵ (lasts T' (at α) (to κs a (α ∷ []) γs) ws) ⊛ raw ((c' (at α) (to κs a (α ∷ []) γs)).ensures (ag.ghost κs a (α ∷ []) γs g) r (at_exit T' (at α) (to κs a (α ∷ []) γs) ws)))))
           ⊛ given (AllIs pt x) (‵ (flft (α ∷ []) (rest_of l full_share)) ⊛ raw (owed 𝓛 pt (at α) b o x γs) ⊛ raw Way ⊛ ‵ (fobor κ q (Body (mem R) b o γ)) ⊛ ‵ (fobs γ (R.coded.code h)) ⊛ ‵ (fauth γ (R.coded.code h))))) ∷ []) ∵ updating ! $
           pick ! (λ α. pick ! (λ γs. split ! $ await ! tt $ pick ! (λ r. split ! $ move ! (1 ∷ []) $ pick ! (λ ws. split ! $ move ! (2 ∷ []) $ split ! $ move ! (1 ∷ []) $ peeks ! X (Is X) (shows 𝓛 X) r (w ∷ []) (λ is.
@@ -233,7 +233,7 @@ module _ {M : Type 1} {𝓤 : Ura M} (𝓛 : Logic 𝓤) (TT : Declared) (L : LL
           move ! (2 ∷ 4 ∷ []) $ join ! $ move ! (0 ∷ 4 ∷ []) $ join ! $ frame ! $
           show ! (λ (us : Lasts T κs a). sep 𝓤 (sem 𝓛 (lasts T κs a us)) ((c κs a).ensures g r (at_exit T κs a us))) (end κs a (α ∷ []) γs ws) $
           move ! (2 ∷ []) $ recast 𝓛 (‵ (lasts_of κs ps ks a.1 (hd.fins κs (α ∷ []) a.1 (others ps' (at α) b o ks' (hd.args κs (α ∷ []) a.1) pt x γs ws)))) (λ i. sem 𝓛 (hd.lasts κs (α ∷ []) a.1 (others ps' (at α) b o ks' (hd.args κs (α ∷ []) a.1) pt x γs ws) i)) $
-          move ! (1 ∷ []) $ use1 𝓛 (‵ (fres γ (R.coded.code (sp.shut (new α γs ws))))) (𝓛.names.obs-res γ (R.coded.code (sp.shut (new α γs ws)))) $ fjoin ! $ frame ! $ hold ! (1 ∷ []) $ by ! (ag.says κs a (α ∷ []) γs g r ws))))))))
+          move ! (1 ∷ []) $ use1 𝓛 (‵ (fres γ (R.coded.code (sp.shut (new α γs ws))))) (𝓛.names.obs-res γ (R.coded.code (sp.shut (new α γs ws)))) $ move ! (0 ∷ 2 ∷ []) $ fjoin ! $ fjoin ! $ frame ! $ by ! (ag.says κs a (α ∷ []) γs g r ws))))))))
 
       core : Typed τs (flat (types_at ps κs) vss) → ent 𝓤 Pre (WpFn 𝓤 H 𝓣.C 𝓣.Λ code (vptr b o ∷ flat (types_at ps κs) vss) Out)
       core ty = subst (λ (us : List Val). ent 𝓤 Pre (WpFn 𝓤 H 𝓣.C 𝓣.Λ code (vptr b o ∷ us) Out)) (append-nil (flat (types_at ps κs) vss))

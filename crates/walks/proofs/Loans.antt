@@ -9,7 +9,7 @@ use Prim.Native.Nat.{ℕ, zero, ◌+◌}
 use mathlib.Core.Option.{some as just}
 use mathlib.Core.List.{List, [], ◌∷◌, ◌++◌}
 use seplogic.Ra.Ura.{Ura}
-use seplogic.Ra.TreeShare.{full_share}
+use base.Fraction.{full_share}
 use mir.Fields.{get_v}
 use mir.Syntax.{Ty, Tys, tcons, tnil, ty_struct, named, mut, imm}
 use mir.Val.{Val, Vals, vptr, vstruct, vcons, vnil}
@@ -24,8 +24,9 @@ use types.SemTy.{Body}
 use denote.RattleType.{RattleType, Denots, Valss, flat, owns}
 use denote.Exit.{yes}
 use denote.Laws.{Is, Tells, Makes, shows}
-use denote.Lend.{lends_ref, ref_back, lends_shr}
-use denote.Memory.{lone, mem, part_at, pointee}
+use denote.Lend.{lends_ref, ref_back, lends_free}
+use denote.Lends
+use denote.Memory.{lone, mem, part_at, shared_of, pointee}
 use denote.Ref.{MutRef, ShrRef}
 use denote.Signature.{Slot, plain, mut_ref_to, shr_ref_to, types_at}
 use denote.Steps.{owned, peeks, only}
@@ -50,6 +51,7 @@ pub record Part : Type 2 where
   pub one : One F
   pub typed : (M : Type 1) (𝓤 : Ura M) (𝓛 : Logic 𝓤) → (x : F.Denot) (w : Val) → Is F x (w ∷ []) → Of (lone F.mir) w
   pub makes : (M : Type 1) (𝓤 : Ura M) (𝓛 : Logic 𝓤) → Makes 𝓛 F (Is F)
+  pub lends : (M : Type 1) (𝓤 : Ura M) (𝓛 : Logic 𝓤) (x : F.Denot) (b o : ℕ) → Lends.Lent 𝓛 (part_at F full_share x b o) (shared_of F x b o)
 
 abbrev pub Parts : ℕ → Type 2
 Parts n = List (How n × Part)
@@ -137,7 +139,7 @@ module _ {n : ℕ} (rest : List (Slot n)) where
     abbrev pub args : Denots (types_at rest κs) → (ps : Parts n) → Whole ps → Names ps → Denots (types_at (slots ps) κs)
     args a [] x γs = a
     args a ((change j ok, f) ∷ ps) x γs = (record { ref_ptr = (b, o + f.d); ghost_name = γs.0; now = x.0 }, args a ps x.1 γs.1)
-    args a ((look j ok, f) ∷ ps) x γs = (record { ref_ptr = (b, o + f.d); ghost_name = γs.0; now = x.0 }, args a ps x.1 γs.1)
+    args a ((look j ok, f) ∷ ps) x γs = (record { ref_ptr = (b, o + f.d); now = x.0 }, args a ps x.1 γs.1)
     args a ((take, f) ∷ ps) x γs = (x.0, args a ps x.1 γs.1)
     args a ((keep, f) ∷ ps) x γs = args a ps x.1 γs.1
 
@@ -215,7 +217,7 @@ module _ {M : Type 1} {𝓤 : Ura M} (𝓛 : Logic 𝓤) where
       of-cell is = qed 𝓛 (‵ cell ∷ []) ∵ owned ! f.F (Is f.F) (f.makes M 𝓤 𝓛) x _ is $ move ! (1 ∷ 0 ∷ []) $ by ! (part_in 𝓛 f.F f.one full_share x b (o + f.d) (f.spell x))
 
       to_cell : ent 𝓤 (sem 𝓛 part) (guard 𝓤 (Is f.F x (f.spell x ∷ [])) (sem 𝓛 cell))
-      to_cell = qed 𝓛 (‵ part ∷ []) ∵ use1 𝓛 (some (λ (v : Val). ‵ (fat full_share (lone f.F.mir) b (o + f.d) v) ⊛ ‵ (f.F.own x (v ∷ [])))) (part_out 𝓛 f.F f.one full_share x b (o + f.d)) $ pick ! (λ v. split ! $ move ! (1 ∷ []) $
+      to_cell = qed 𝓛 (‵ part ∷ []) ∵ use1 𝓛 (some (λ (v : Val). ‵ (fat full_share (lone f.F.mir) b (o + f.d) v) ⊛ ‵ (f.F.own_val x (v ∷ [])))) (part_out 𝓛 f.F f.one full_share x b (o + f.d)) $ pick ! (λ v. split ! $ move ! (1 ∷ []) $
           peeks ! f.F (Is f.F) (shows 𝓛 f.F) x (v ∷ []) (λ p. drop ! $ rewrite ! 0 (λ (u : Val). ‵ (fat full_share (lone f.F.mir) b (o + f.d) u)) (ap only (f.tells x (v ∷ []) p)) refl $
           check ! (subst (λ (us : List Val). Is f.F x us) (f.tells x (v ∷ []) p) p) $ done !))
 
@@ -233,9 +235,9 @@ module _ {M : Type 1} {𝓤 : Ura M} (𝓛 : Logic 𝓤) where
         show ! (Lent vss ((change j ok, f) ∷ ps) x) (γ, γs) $ move ! (2 ∷ 0 ∷ []) $ fjoin ! $ frame ! $ move ! (1 ∷ 0 ∷ []) $ done !))
     lends-parts vss ((look j ok, f) ∷ ps) x is =
         qed 𝓛 ((‵ (cell f x.0) ⊛ raw (cells ps b o x.1)) ∷ ‵ (owns (types_at rest κs) a vss) ∷ []) ∵ updating ! $ split ! $ use1 𝓛 (‵ (part f x.0)) (of-cell f x.0 is.0) $
-        use1 𝓛 (later (some (λ (γ : GName). ‵ ((ShrRef (named j) (lft_at n j ok κs) f.F).own_val (record { ref_ptr = (b, o + f.d); ghost_name = γ; now = x.0 }) (vptr b (o + f.d) ∷ [])) ⊛ ‵ (flent (lft_at n j ok κs) (part f x.0))))) (lends_shr 𝓛 f.F (named j) (lft_at n j ok κs) full_share x.0 b (o + f.d)) $ await ! tt $ pick ! (λ γ. split ! $
+        use1 𝓛 (later (‵ ((ShrRef (named j) (lft_at n j ok κs) f.F).own_val (record { ref_ptr = (b, o + f.d); now = x.0 }) (vptr b (o + f.d) ∷ [])) ⊛ ‵ (flent (lft_at n j ok κs) (part f x.0)))) (lends_free 𝓛 f.F (named j) (lft_at n j ok κs) full_share x.0 b (o + f.d) (f.lends M 𝓤 𝓛 x.0 b (o + f.d))) $ await ! tt $ split ! $
         move ! (2 ∷ 3 ∷ []) $ use2 𝓛 (Others vss ps x.1) (lends-parts vss ps x.1 is.1) $ await ! tt $ pick ! (λ γs. split ! $ at_once ! $
-        show ! (Lent vss ((look j ok, f) ∷ ps) x) (γ, γs) $ move ! (2 ∷ 0 ∷ []) $ fjoin ! $ frame ! $ move ! (1 ∷ 0 ∷ []) $ done !))
+        show ! (Lent vss ((look j ok, f) ∷ ps) x) (0, γs) $ move ! (2 ∷ 0 ∷ []) $ fjoin ! $ frame ! $ move ! (1 ∷ 0 ∷ []) $ done !)
     lends-parts vss ((take, f) ∷ ps) x is =
         qed 𝓛 ((‵ (cell f x.0) ⊛ raw (cells ps b o x.1)) ∷ ‵ (owns (types_at rest κs) a vss) ∷ []) ∵ updating ! $ split ! $
         move ! (1 ∷ 2 ∷ []) $ use2 𝓛 (Others vss ps x.1) (lends-parts vss ps x.1 is.1) $ await ! tt $ pick ! (λ γs. split ! $ at_once ! $
@@ -271,7 +273,7 @@ module _ {M : Type 1} {𝓤 : Ura M} (𝓛 : Logic 𝓤) where
       parts-back [] x γs ws en is = qed 𝓛 (‵ (fdead α) ∷ raw (emp 𝓤) ∷ ‵ (lasts_of κs rest ks a ws) ∷ []) ∵ updating ! $ at_once ! $ check ! tt $ hold ! (1 ∷ 2 ∷ []) $ done !
       parts-back ((change j ok, f) ∷ ps) x γs ws en is =
           qed 𝓛 (‵ (fdead α) ∷ (‵ (flent (lft_at n j ok κs) (Body (mem f.F) b (o + f.d) γs.0)) ⊛ raw (owed ps κs b o x.1 γs.1)) ∷ ‵ (Said ((change j ok, f) ∷ ps) x γs ws) ∷ []) ∵ updating ! $
-          use1 𝓛 (‵ (fdead α) ⊛ ‵ (fdead α)) (𝓛.lfts.dead_dup α) $ split ! $ move ! (2 ∷ []) $ split ! $ move ! (4 ∷ []) $ fsplit ! $
+          use1 𝓛 (‵ (fdead α) ⊛ ‵ (fdead α)) (𝓛.lfts.dead_dup α) $ split ! $ move ! (2 ∷ []) $ split ! $ move ! (4 ∷ []) $ fsplit ! $ fsplit ! $ move ! (1 ∷ []) $ drop ! $
           -- [the last value; the others; the lender's part; the others'; †; †]
           move ! (4 ∷ []) $ use1 𝓛 (‵ (fdead (lft_at n j ok κs))) (over (lft_at n j ok κs) en.0) $ move ! (0 ∷ 3 ∷ 1 ∷ []) $ use3 𝓛 (later (‵ (part f ws.0))) (ref_back 𝓛 f.F (lft_at n j ok κs) γs.0 ws.0 b (o + f.d)) $ await ! tt $
           use1 𝓛 (given (Is f.F ws.0 (f.spell ws.0 ∷ [])) (‵ (cell f ws.0))) (to_cell f ws.0) $ learn ! (λ one.

@@ -3,29 +3,28 @@
 --     Field        a field that is handed on, lent or read
 --     Agrees       from f's contract to g's.        picked, picked-into       the theorem, and the same where the last parameter is a `&mut [E]`. g's first lifetime is that of every field that is lent, and its others are f's others
 -- Assumes nothing.
-use denote.Slice.{shr_slice_at}
 use mathlib.Core.Path.{◌≡◌, refl, sym, ◌∙◌, ap, subst}
 use Prim.Native.Nat.{ℕ, zero, suc, ◌+◌}
 use mathlib.Core.Option.{some as just}
 use mathlib.Core.List.{List, [], ◌∷◌, ◌++◌, append-nil}
 use seplogic.Ra.Ura.{Ura}
 use mir.Fields.{get_v}
-use mir.Syntax.{Name, Fn, Lifetime, Ty, Tys, ty_ref, named, mut, imm}
+use mir.Syntax.{Callee, Fn, Lifetime, Ty, Tys, ty_ref, named, mut, imm}
 use mir.Raw.{raw as raw_ty}
 use mir.Val.{Val, Vals, vptr, vstruct, vcons, vnil, of_list}
 use base.Logic.{SProp, ent, sep, ex, guard, ex_e, ex_i, via, snd∗, id⊢}
-use base.Fml.{Lft, GName, Share, Fml, fat, flft, fobor, fres, fshr_bor}
+use base.Fml.{Lft, GName, Share, Fml, fat, flft}
 use prog.Memory.{field_at}
 use prog.Wp.{Tables, WpFn}
 use types.Logic.{Logic, sem}
 use contract.Lifetimes.{Lfts, Shares, toks}
-use types.Kit.{‵, raw, some, later, ◌⊛◌, ◌$◌, ◌∵◌, !, qed, by, move, keep, drop, use1, use2, use3, split, join, pick, fsplit, fsplit3, fjoin, fjoin3, feq_i, frame, await, updating, now as at_once, show, check, done}
-use types.Tokens.{name_new, shr_bor_dup}
+use types.Kit.{‵, mean, raw, some, later, ◌⊛◌, ◌$◌, ◌∵◌, !, qed, by, move, drop, use1, use2, use3, split, join, pick, fsplit, fjoin, feq_i, frame, await, updating, now as at_once, show, check, done}
 use sound.WpLaws.{fm_of}
 use denote.RattleType.{RattleType, Denots, Valss, flat, owns, mirs}
 use denote.Exit.{yes, left}
-use denote.Laws.{Is, Makes, Typed, Lawfuls, valss, shows}
-use denote.Memory.{lone, part_at, pointee}
+use denote.Laws.{Is, Ises, Are, Makes, Typed, Lawfuls, valss, shows, all_Typed}
+use denote.Memory.{lone, part_at, shared_of, hidden_shr, pointee}
+use denote.Opens.{Opens, Shut, twice_dup}
 use denote.Ref.{ShrRef, shr_vals, shr_Tells}
 use denote.Signature.{Slot, plain, shr_ref_to, types_at}
 use denote.Slice.{slice_ty}
@@ -41,9 +40,9 @@ use denote.Triple.Spec.{Meets, Back, triple_of}
 use denote.Triple.Statement.{Triple}
 use borrow.Struct.Share.{Parts}
 use Rattle.walks.proofs.Changed.{lies}
-use Rattle.walks.proofs.Enters.{enters}
+use Rattle.walks.proofs.Enters.{enters, enters-told}
 use Rattle.walks.proofs.Picks.{Pick, lend, read, values_of, value_of, AllGood, picking, picks, picking-into, picks-into}
-use Rattle.walks.proofs.Slices.{Lastly, lastly, Sliced, sliced}
+use Rattle.walks.proofs.Slices.{Lastly, lastly, Sliced, EndsSliced, sliced}
 use Rattle.walks.proofs.Thin.{Of}
 
 -- the shape of the contract of a function on a `&` to the table
@@ -93,7 +92,7 @@ module _ {M : Type 1} {𝓤 : Ura M} (𝓛 : Logic 𝓤) (TT : Declared) (L : LL
     kepts-of [] ps ks = ks
     kepts-of (f ∷ fs) ps ks = (yes, kepts-of fs ps ks)
 
-    -- the field's value as the callee sees it: what is lent has a name of its own
+    -- the field's value as the callee sees it
     abbrev arg-of : (f : Field 𝓛 TT L) (κs : Lfts (suc n)) → ℕ → ℕ → TT.D → GName → ((slot_of f).row κs).Denot
     arg-of (lent F k d sub e pt) κs b o h γ = record { ref_ptr = (b, o + d); now = sub h }
     arg-of (taken F k d sub e is mk of) κs b o h γ = sub h
@@ -128,24 +127,23 @@ module _ {M : Type 1} {𝓤 : Ura M} (𝓛 : Logic 𝓤) (TT : Declared) (L : LL
     good (lent F k d sub e pt ∷ fs) h is = (e, good fs h is)
     good (taken F k d sub e at mk of ∷ fs) h is = ((e, of (sub h) _ (at h is)), good fs h is)
 
-    -- the fields are made parameters: of what is lent, the borrow of the table gives one of the field, under a new name
-    module _ (ps : List (Slot (suc n))) (κs : Lfts (suc n)) (q : Share) (b o : ℕ) (h : TT.D) (is : Is (row TT) h (LL.vals TT L h)) (a : Denots (types_at ps κs)) (vss : Valss (types_at ps κs)) where
+    -- the fields are made parameters: of what is lent, what the `&` to the table holds has what one to the field holds
+    module _ (op : Opens 𝓛 (row TT)) (ps : List (Slot (suc n))) (κs : Lfts (suc n)) (q : Share) (b o : ℕ) (h : TT.D) (is : Is (row TT) h (LL.vals TT L h)) (a : Denots (types_at ps κs)) (vss : Valss (types_at ps κs)) where
       abbrev Made : (fs : Fields) → Names fs → Fml
       Made fs γs = owns (types_at (slots-of fs ps) κs) (args_of fs ps κs b o h γs a) (vals-of fs ps κs b o h vss)
 
-      made : (fs : Fields) → ent 𝓤 (sep 𝓤 (A.shr_bor κs.0 (λ s. part_at (row TT) s h b o)) (sep 𝓤 (A.lft κs.0 q) (sem 𝓛 (owns (types_at ps κs) a vss)))) (H.⇛ (ex 𝓤 (λ (γs : Names fs). sep 𝓤 (A.lft κs.0 q) (sem 𝓛 (Made fs γs)))))
-      made [] = qed 𝓛 (‵ (fshr_bor κs.0 (λ s. part_at (row TT) s h b o)) ∷ ‵ (flft κs.0 q) ∷ ‵ (owns (types_at ps κs) a vss) ∷ []) ∵ updating ! $ at_once ! $ show ! (λ (γs : Names []). sep 𝓤 (A.lft κs.0 q) (sem 𝓛 (Made [] γs))) tt $ drop ! $ done !
+      made : (fs : Fields) → ent 𝓤 (sep 𝓤 (sem 𝓛 (hidden_shr (row TT) κs.0 h b o)) (sep 𝓤 (A.lft κs.0 q) (sem 𝓛 (owns (types_at ps κs) a vss)))) (H.⇛ (ex 𝓤 (λ (γs : Names fs). sep 𝓤 (A.lft κs.0 q) (sem 𝓛 (Made fs γs)))))
+      made [] = qed 𝓛 (‵ (hidden_shr (row TT) κs.0 h b o) ∷ ‵ (flft κs.0 q) ∷ ‵ (owns (types_at ps κs) a vss) ∷ []) ∵ updating ! $ at_once ! $ show ! (λ (γs : Names []). sep 𝓤 (A.lft κs.0 q) (sem 𝓛 (Made [] γs))) tt $ drop ! $ done !
       made (lent F k d sub e pt ∷ fs) =
-          qed 𝓛 (‵ (fshr_bor κs.0 (λ s. part_at (row TT) s h b o)) ∷ ‵ (flft κs.0 q) ∷ ‵ (owns (types_at ps κs) a vss) ∷ []) ∵ updating ! $ shr_bor_dup ! $ move ! (0 ∷ 2 ∷ []) $
-          use2 𝓛 (later (‵ (fshr_bor κs.0 (λ s. part_at F s (sub h) b (o + d))) ⊛ ‵ (flft κs.0 q))) (pt κs.0 q h b o) $ await ! tt $ split ! $
+          qed 𝓛 (‵ (hidden_shr (row TT) κs.0 h b o) ∷ ‵ (flft κs.0 q) ∷ ‵ (owns (types_at ps κs) a vss) ∷ []) ∵ updating ! $ twice_dup ! (shared_of (row TT) h b o) (op h b o).1 κs.0 $ move ! (0 ∷ 2 ∷ []) $
+          use2 𝓛 (later (‵ (hidden_shr F κs.0 (sub h) b (o + d)) ⊛ ‵ (flft κs.0 q))) (pt κs.0 q h b o) $ await ! tt $ split ! $
           -- [the field's borrow; the token; the table's borrow; the other parameters]
           move ! (2 ∷ 1 ∷ 3 ∷ []) $ use3 𝓛 (later (some (λ (γs : Names fs). ‵ (flft κs.0 q) ⊛ ‵ (Made fs γs)))) (made fs) $ await ! tt $ pick ! (λ γs. split ! $
-          name_new ! tt (F.coded.code (sub h)) (λ γ. use1 𝓛 (‵ (fres γ (F.coded.code (sub h)))) (𝓛.names.obs-res γ (F.coded.code (sub h))) $ at_once ! $
-          show ! (λ (δs : Names (lent F k d sub e pt ∷ fs)). sep 𝓤 (A.lft κs.0 q) (sem 𝓛 (Made (lent F k d sub e pt ∷ fs) δs))) (γ, γs) $
-          -- [the name's value; auth; the token; the others; the field's borrow]
-          move ! (2 ∷ []) $ frame ! $ move ! (0 ∷ 3 ∷ 2 ∷ []) $ feq_i ! (List Val) (vptr b (o + d) ∷ []) (vptr b (o + d) ∷ []) refl $ fjoin3 ! $ fjoin ! $ keep ! (0 ∷ []) $ done !))
+          at_once ! $ show ! (λ (δs : Names (lent F k d sub e pt ∷ fs)). sep 𝓤 (A.lft κs.0 q) (sem 𝓛 (Made (lent F k d sub e pt ∷ fs) δs))) (0, γs) $
+          -- [the token; the others; the field's borrow]
+          frame ! $ move ! (1 ∷ 0 ∷ []) $ feq_i ! (List Val) (vptr b (o + d) ∷ []) (vptr b (o + d) ∷ []) refl $ fjoin ! $ fjoin ! $ done !)
       made (taken F k d sub e at mk of ∷ fs) =
-          qed 𝓛 (‵ (fshr_bor κs.0 (λ s. part_at (row TT) s h b o)) ∷ ‵ (flft κs.0 q) ∷ ‵ (owns (types_at ps κs) a vss) ∷ []) ∵ updating ! $
+          qed 𝓛 (‵ (hidden_shr (row TT) κs.0 h b o) ∷ ‵ (flft κs.0 q) ∷ ‵ (owns (types_at ps κs) a vss) ∷ []) ∵ updating ! $
           use3 𝓛 (later (some (λ (γs : Names fs). ‵ (flft κs.0 q) ⊛ ‵ (Made fs γs)))) (made fs) $ await ! tt $ pick ! (λ γs. split ! $ at_once ! $
           show ! (λ (δs : Names (taken F k d sub e at mk of ∷ fs)). sep 𝓤 (A.lft κs.0 q) (sem 𝓛 (Made (taken F k d sub e at mk of ∷ fs) δs))) (0, γs) $ frame ! $
           owned ! F (Is F) mk (sub h) _ (at h is) $ fjoin ! $ done !)
@@ -169,7 +167,7 @@ module _ {M : Type 1} {𝓤 : Ura M} (𝓛 : Logic 𝓤) (TT : Declared) (L : LL
           pub says : (κs : Lfts (suc n)) (a : Args T.signature κs) (γs : Names fs) (g : (c κs a).ghost) (r : X.Denot) (ws : Lasts Getter κs (to κs a γs))
               → ent 𝓤 ((c' κs (to κs a γs)).ensures (ghost κs a γs g) r (at_exit Getter κs (to κs a γs) ws)) ((c κs a).ensures g r (at_exit T κs a (tt, rest_of fs ps ks κs a.0.ref_ptr.0 a.0.ref_ptr.1 a.0.now γs a.1 ws)))
 
-        module _ (ag : Agrees) (f : Name) (k : ℕ) (𝓣 : Tables 𝓤 H) (met : Triple 𝓤 (𝓣.C f) (triple_of 𝓛 Getter.signature (closing 𝓛 Getter c'))) where
+        module _ (ag : Agrees) (f : Callee) (k : ℕ) (𝓣 : Tables 𝓤 H) (met : Triple 𝓤 (𝓣.C f) (triple_of 𝓛 Getter.signature (closing 𝓛 Getter c'))) where
           abbrev code : Fn
           code = picking (suc n) k imm δ (lies TT) (pointee (row TT).written) σs (picks_of fs) f
 
@@ -208,8 +206,8 @@ module _ {M : Type 1} {𝓤 : Ura M} (𝓛 : Logic 𝓤) (TT : Declared) (L : LL
             Given' w = ex 𝓤 (λ (γs : Names fs). (triple_of 𝓛 Getter.signature (closing 𝓛 Getter c')).post (y' γs) w)
 
             abbrev Kept : Share → SProp 𝓤
-            Kept s = sep 𝓤 (sem 𝓛 (R.own h (LL.vals TT L h))) (sep 𝓤 (sem 𝓛 (fobor κ q (part_at R s h b o)))
-                (sep 𝓤 (sem 𝓛 (fshr_bor κ (λ s'. part_at R s' h b o))) (sep 𝓤 (toks 𝓛 n κs.1 qs.1) (sep 𝓤 (sem 𝓛 (owns (types_at ps κs) a.1 vss)) ((c κs a).requires g)))))
+            Kept s = sep 𝓤 (sem 𝓛 (R.own_val h (LL.vals TT L h))) (sep 𝓤 (mean 𝓛 (Shut 𝓛 κ q (part_at R s h b o)))
+                (sep 𝓤 (sem 𝓛 (hidden_shr R κ h b o)) (sep 𝓤 (toks 𝓛 n κs.1 qs.1) (sep 𝓤 (sem 𝓛 (owns (types_at ps κs) a.1 vss)) ((c κs a).requires g)))))
 
             abbrev Out : Val → SProp 𝓤
             Out = (triple_of 𝓛 T.signature (closing 𝓛 T c)).post ((κs, qs, tt, a, (vptr b o ∷ [], vss)), g)
@@ -217,17 +215,17 @@ module _ {M : Type 1} {𝓤 : Ura M} (𝓛 : Logic 𝓤) (TT : Declared) (L : LL
             before : ent 𝓤 Pre (H.⇛ (ex 𝓤 (λ (s : Share). guard 𝓤 (AllGood (tys TT) (machine TT L h) (picks_of fs)) (sep 𝓤 (H.at s (raw_ty (lies TT)) b o (LL.val TT L h)) (Kept s)))))
             before =
                 qed 𝓛 (((‵ (flft κ q) ⊛ raw (toks 𝓛 n κs.1 qs.1)) ⊛ ‵ (owns (ShrRef (named 0) κ R ∷ types_at ps κs) a (vptr b o ∷ [], vss))) ∷ raw ((c κs a).requires g) ∷ []) ∵ updating ! $ split ! $
-                move ! (1 ∷ []) $ fsplit ! $ fsplit3 ! $ drop ! $ drop ! $ move ! (2 ∷ []) $ split ! $ move ! (2 ∷ 0 ∷ []) $
-                looks ! tt R (Is R) (shows 𝓛 R) (LL.vals TT L) (LL.tells TT L) (LL.copy TT cp 𝓛) h b o (λ s vs. spelt ! R (Is R) (shows 𝓛 R) (LL.vals TT L) (LL.tells TT L) s h vs b o $ move ! (1 ∷ []) $
+                move ! (1 ∷ []) $ fsplit ! $ fsplit ! $ drop ! $ move ! (2 ∷ []) $ split ! $ move ! (2 ∷ 0 ∷ []) $
+                looks ! tt R (LL.copied TT cp 𝓛).opens h b o (λ s vs. spelt ! R (Is R) (shows 𝓛 R) (LL.vals TT L) (LL.tells TT L) s h vs b o $ move ! (1 ∷ []) $
                 peeks ! R (Is R) (shows 𝓛 R) h (LL.vals TT L h) (λ is. at_once ! $ show ! (λ (s' : Share). guard 𝓤 (AllGood (tys TT) (machine TT L h) (picks_of fs)) (sep 𝓤 (H.at s' (raw_ty (lies TT)) b o (LL.val TT L h)) (Kept s'))) s $ check ! (good fs h is) $
                 move ! (1 ∷ 0 ∷ []) $ done !))
 
             mid : (s : Share) → ent 𝓤 (sep 𝓤 (H.at s (raw_ty (lies TT)) b o (LL.val TT L h)) (Kept s)) (H.⇛ Asked)
             mid s =
-                qed 𝓛 (‵ (fat s (raw_ty (lies TT)) b o (LL.val TT L h)) ∷ ‵ (R.own h (LL.vals TT L h)) ∷ ‵ (fobor κ q (part_at R s h b o)) ∷ ‵ (fshr_bor κ (λ s'. part_at R s' h b o)) ∷ raw (toks 𝓛 n κs.1 qs.1) ∷ ‵ (owns (types_at ps κs) a.1 vss) ∷ raw ((c κs a).requires g) ∷ []) ∵ updating ! $
+                qed 𝓛 (‵ (fat s (raw_ty (lies TT)) b o (LL.val TT L h)) ∷ ‵ (R.own_val h (LL.vals TT L h)) ∷ Shut 𝓛 κ q (part_at R s h b o) ∷ ‵ (hidden_shr R κ h b o) ∷ raw (toks 𝓛 n κs.1 qs.1) ∷ ‵ (owns (types_at ps κs) a.1 vss) ∷ raw ((c κs a).requires g) ∷ []) ∵ updating ! $
                 move ! (1 ∷ []) $ peeks ! R (Is R) (shows 𝓛 R) h (LL.vals TT L h) (λ is. move ! (1 ∷ 0 ∷ []) $ shuts ! tt R s h (LL.vals TT L h) b o $
                 -- [the token; the table's borrow; the other tokens; the other parameters; what f requires]
-                move ! (1 ∷ 0 ∷ 3 ∷ []) $ use3 𝓛 (later (some (λ (γs : Names fs). ‵ (flft κ q) ⊛ ‵ (Made ps κs q b o h is a.1 vss fs γs)))) (made ps κs q b o h is a.1 vss fs) $ await ! tt $ pick ! (λ γs. split ! $ at_once ! $
+                move ! (1 ∷ 0 ∷ 3 ∷ []) $ use3 𝓛 (later (some (λ (γs : Names fs). ‵ (flft κ q) ⊛ ‵ (Made (LL.copied TT cp 𝓛).opens ps κs q b o h is a.1 vss fs γs)))) (made (LL.copied TT cp 𝓛).opens ps κs q b o h is a.1 vss fs) $ await ! tt $ pick ! (λ γs. split ! $ at_once ! $
                 show ! (λ (δs : Names fs). (triple_of 𝓛 Getter.signature (closing 𝓛 Getter c')).pre (y' δs)) γs $
                 move ! (0 ∷ 2 ∷ []) $ join ! $ move ! (0 ∷ 1 ∷ []) $ join ! $ frame ! $ by ! (ag.asks κs a γs g)))
 
@@ -239,7 +237,7 @@ module _ {M : Type 1} {𝓤 : Ura M} (𝓛 : Logic 𝓤) (TT : Declared) (L : LL
                 (𝓣.mono f (flat (types_at (slots-of fs ps) κs) (vals-of fs ps κs b o h vss)) ((triple_of 𝓛 Getter.signature (closing 𝓛 Getter c')).post (y' γs)) Given' (λ w. ex_i 𝓤 (λ (δs : Names fs). (triple_of 𝓛 Getter.signature (closing 𝓛 Getter c')).post (y' δs) w) γs))))
 
             back : (w : Val) → ent 𝓤 (Given' w) (H.⇛ (guard 𝓤 (Of δ w) (Out w)))
-            back w = qed 𝓛 (some (λ (γs : Names fs). later (some (λ (r : X.Denot). (raw (toks 𝓛 (suc n) κs qs) ⊛ ‵ (X.own r (w ∷ []))) ⊛
+            back w = qed 𝓛 (some (λ (γs : Names fs). later (some (λ (r : X.Denot). (raw (toks 𝓛 (suc n) κs qs) ⊛ ‵ (X.own_val r (w ∷ []))) ⊛
                 some (λ (ws : Lasts Getter κs (to κs a γs)). ‵ (lasts Getter κs (to κs a γs) ws) ⊛ raw ((c' κs (to κs a γs)).ensures (ag.ghost κs a γs g) r (at_exit Getter κs (to κs a γs) ws)))))) ∷ []) ∵ updating ! $
                 pick ! (λ γs. await ! tt $ pick ! (λ r. split ! $ move ! (1 ∷ []) $ pick ! (λ ws. split ! $ move ! (2 ∷ []) $ split ! $ move ! (1 ∷ []) $
                 peeks ! X (Is X) (shows 𝓛 X) r (w ∷ []) (λ is. at_once ! $ check ! (typed r w is) $ updating ! $ at_once ! $
@@ -254,8 +252,8 @@ module _ {M : Type 1} {𝓤 : Ura M} (𝓛 : Logic 𝓤) (TT : Declared) (L : LL
                 (picks 𝓛 𝓣.C 𝓣.Λ (fm_of 𝓤 H 𝓛.laws 𝓣) (suc n) k imm δ TT.name (tys TT) (pointee (row TT).written) σs (picks_of fs) f b o (machine TT L h) (flat (types_at ps κs) vss) ty Share (λ s. s) Pre Kept Asked Given' Out before mid
                 (calls-it _ (sym (append-nil (flat (types_at ps κs) vss)))) back)
 
-            core-into : (τs : List Ty) (ℓ : Lifetime) (ε : Ty) → Lastly τs (slice_ty (ty_ref ℓ mut ε)) (flat (types_at ps κs) vss) → ent 𝓤 Pre (WpFn 𝓤 H 𝓣.C 𝓣.Λ (code-into τs ℓ ε) (vptr b o ∷ flat (types_at ps κs) vss) Out)
-            core-into τs ℓ ε (us, u, e, ty, of) = shr_slice_at (sliced ℓ ε u of.0)
+            core-into : (τs : List Ty) (ℓ : Lifetime) (ε : Ty) → Lastly τs (slice_ty (ty_ref ℓ mut ε)) (flat (types_at ps κs) vss) → EndsSliced (flat (types_at ps κs) vss) → ent 𝓤 Pre (WpFn 𝓤 H 𝓣.C 𝓣.Λ (code-into τs ℓ ε) (vptr b o ∷ flat (types_at ps κs) vss) Out)
+            core-into τs ℓ ε (us, u, e, ty, of) points = shr_slice_at (sliced us u _ e points)
               where
                 shr_slice_at : Sliced u → ent 𝓤 Pre (WpFn 𝓤 H 𝓣.C 𝓣.Λ (code-into τs ℓ ε) (vptr b o ∷ flat (types_at ps κs) vss) Out)
                 shr_slice_at (i, j, x, e') =
@@ -266,6 +264,9 @@ module _ {M : Type 1} {𝓤 : Ura M} (𝓛 : Logic 𝓤) (TT : Declared) (L : LL
           pub picked : Meets 𝓛 T.signature (WpFn 𝓤 H 𝓣.C 𝓣.Λ code) (closing 𝓛 T c)
           picked = enters 𝓛 (suc n) (λ κs. ShrRef (named 0) κs.0 (row TT)) ps (plain (λ _. X)) σs (λ κs. shr_vals) (λ κs. shr_Tells (named 0) κs.0 (row TT)) types laws (closing 𝓛 T c) (WpFn 𝓤 H 𝓣.C 𝓣.Λ code) core
 
-          pub picked-into : (τs : List Ty) (ℓ : Lifetime) (ε : Ty) → σs ≡ τs ++ (slice_ty (ty_ref ℓ mut ε) ∷ []) → Meets 𝓛 T.signature (WpFn 𝓤 H 𝓣.C 𝓣.Λ (code-into τs ℓ ε)) (closing 𝓛 T c)
-          picked-into τs ℓ ε e = enters 𝓛 (suc n) (λ κs. ShrRef (named 0) κs.0 (row TT)) ps (plain (λ _. X)) σs (λ κs. shr_vals) (λ κs. shr_Tells (named 0) κs.0 (row TT)) types laws (closing 𝓛 T c) (WpFn 𝓤 H 𝓣.C 𝓣.Λ (code-into τs ℓ ε))
-              (λ κs qs a vss g ty. core-into κs qs a vss g τs ℓ ε (lastly τs (slice_ty (ty_ref ℓ mut ε)) (flat (types_at ps κs) vss) (subst (λ (ρs : List Ty). Typed ρs (flat (types_at ps κs) vss)) e ty)))
+          -- the last parameter's machine value is a pointer and a count, as its type's relation says (`Slices.antt`'s `ends-lent`)
+          pub picked-into : (τs : List Ty) (ℓ : Lifetime) (ε : Ty) → σs ≡ τs ++ (slice_ty (ty_ref ℓ mut ε) ∷ [])
+              → ((κs : Lfts (suc n)) (a : Denots (types_at ps κs)) (vss : Valss (types_at ps κs)) → Are (types_at ps κs) (Ises (types_at ps κs)) a vss → EndsSliced (flat (types_at ps κs) vss))
+              → Meets 𝓛 T.signature (WpFn 𝓤 H 𝓣.C 𝓣.Λ (code-into τs ℓ ε)) (closing 𝓛 T c)
+          picked-into τs ℓ ε e points = enters-told 𝓛 (suc n) (λ κs. ShrRef (named 0) κs.0 (row TT)) ps (plain (λ _. X)) σs (λ κs. shr_vals) (λ κs. shr_Tells (named 0) κs.0 (row TT)) types laws (closing 𝓛 T c) (WpFn 𝓤 H 𝓣.C 𝓣.Λ (code-into τs ℓ ε))
+              (λ κs qs a vss g are. core-into κs qs a vss g τs ℓ ε (lastly τs (slice_ty (ty_ref ℓ mut ε)) (flat (types_at ps κs) vss) (subst (λ (ρs : List Ty). Typed ρs (flat (types_at ps κs) vss)) (types κs ∙ e) (all_Typed 𝓛 (types_at ps κs) (laws κs) a.1 vss are))) (points κs a.1 vss are))

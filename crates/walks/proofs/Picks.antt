@@ -10,7 +10,7 @@ use mathlib.Core.List.{List, [], ◌∷◌, ◌++◌}
 use seplogic.Ra.Ura.{Ura}
 use mir.Fields.{get_v}
 use mir.Raw.{raw as raw_ty}
-use mir.Syntax.{Sym, Name, Lifetime, Mutability, Ty, Tys, ty_struct, ty_ref, named, erased, mut, imm, deref, field, place, copy, Rv, rv_opd, addr_of, aggregate, Body, assign, call, return, seq, local, value_local, Fn}
+use mir.Syntax.{Sym, Callee, Lifetime, Mutability, Ty, Tys, ty_struct, ty_ref, named, erased, mut, imm, deref, field, place, copy, Rv, rv_opd, addr_of, aggregate, Body, assign, call, return, seq, local, value_local, Fn}
 use mir.Val.{Val, Vals, vptr, vstruct, vcons, vnil}
 use base.Logic.{SProp, ent, sep, ex, guard}
 use base.Fml.{Share, fat}
@@ -20,7 +20,7 @@ use types.Logic.{Logic}
 use types.Kit.{Item, ‵, raw, some, given, later, ◌⊛◌, Post, runs, Step, step, ◌$◌, ◌∵◌, !, qed, move, use1, use2, split, pick, learn, fsplit, fjoin, await, done}
 use types.Run.{look, init, forget, stop, hop, fld, from, load, addr, of_opd, and_then, no_more, assigns, land, returns, enter, alloc1, alloc0, params1, pass1, pass0, free1, free0}
 use types.Part.{agg, whole, sub, look_in}
-use seplogic.Ra.TreeShare.{full_share}
+use base.Fraction.{full_share}
 use sound.WpLaws.{FmC}
 use denote.Laws.{Typed}
 use denote.Slice.{slice_ty}
@@ -74,20 +74,24 @@ abbrev fills : Ty → ℕ → List Pick → Body → Body
 fills σ i [] rest = rest
 fills σ i (p ∷ pk) rest = seq (assign (place i []) (filled σ p)) (fills σ (suc i) pk rest)
 
-abbrev pub picking : (n k : ℕ) (μ : Mutability) (δ σ π : Ty) (τs : List Ty) (pk : List Pick) → Name → Fn
+abbrev pub picking : (n k : ℕ) (μ : Mutability) (δ σ π : Ty) (τs : List Ty) (pk : List Pick) → Callee → Fn
 picking n k μ δ σ π τs pk g = record {
   lifetimes = n;
   outlives = [];
+  ty_params = [];
+  givens = 0;
   params = k;
   locals = local δ value_local ∷ local (ty_ref (named 0) μ π) value_local ∷ locals τs (locals (types_of pk) []);
   body = fills σ (suc (suc (past 0 τs))) pk (seq (call g (copies (suc (suc (past 0 τs))) (types_of pk) (copies 2 τs [])) (place 0 [])) return);
 }
 
 -- the same with a `&mut [E]` after the other parameters, which is lent on
-abbrev pub picking-into : (n k : ℕ) (δ σ π : Ty) (τs : List Ty) (ℓ : Lifetime) (ε : Ty) (pk : List Pick) → Name → Fn
+abbrev pub picking-into : (n k : ℕ) (δ σ π : Ty) (τs : List Ty) (ℓ : Lifetime) (ε : Ty) (pk : List Pick) → Callee → Fn
 picking-into n k δ σ π τs ℓ ε pk g = record {
   lifetimes = n;
   outlives = [];
+  ty_params = [];
+  givens = 0;
   params = k;
   locals = local δ value_local ∷ local (ty_ref (named 0) imm π) value_local ∷ locals τs (local (slice_ty (ty_ref ℓ mut ε)) value_local ∷ locals (types_of pk) (local (ty_ref erased mut ε) value_local ∷ local (slice_ty (ty_ref erased mut ε)) value_local ∷ []));
   body = fills σ (suc (suc (past 1 τs))) pk
@@ -117,7 +121,7 @@ module _ {M : Type 1} {𝓤 : Ura M} {𝓛 : Logic 𝓤} {K : Type 0} where
       move t (2 ∷ 3 ∷ 4 ∷ []) $ takes t C Λ e₀ μ π l₁ E q s ν fs b o vs rest (suc i) pk cs.1 good.1 st.1 $ move t (3 ∷ 4 ∷ 0 ∷ []) $ fjoin t $ fjoin t $ z)
 
 pub picks : {M : Type 1} {𝓤 : Ura M} (𝓛 : Logic 𝓤) (C : Calls 𝓤 𝓛.H) (Λ : Loops 𝓤 𝓛.H) → FmC 𝓤 𝓛.H 𝓛.laws C
-    → (n k : ℕ) (μ : Mutability) (δ : Ty) (ν : Sym) (fs : Tys) (π : Ty) (τs : List Ty) (pk : List Pick) (g : Name) (b o : ℕ) (vs : Vals) (us : List Val) → Typed τs us → (S : Type 0) (share : S → Share) (P : SProp 𝓤) (F : S → SProp 𝓤) (Q : SProp 𝓤) (Ret Out : Val → SProp 𝓤)
+    → (n k : ℕ) (μ : Mutability) (δ : Ty) (ν : Sym) (fs : Tys) (π : Ty) (τs : List Ty) (pk : List Pick) (g : Callee) (b o : ℕ) (vs : Vals) (us : List Val) → Typed τs us → (S : Type 0) (share : S → Share) (P : SProp 𝓤) (F : S → SProp 𝓤) (Q : SProp 𝓤) (Ret Out : Val → SProp 𝓤)
     → ent 𝓤 P (𝓛.H.⇛ (ex 𝓤 (λ (s : S). guard 𝓤 (AllGood fs vs pk) (sep 𝓤 (𝓛.H.at (share s) (raw_ty (ty_struct ν fs)) b o (vstruct vs)) (F s)))))
     → ((s : S) → ent 𝓤 (sep 𝓤 (𝓛.H.at (share s) (raw_ty (ty_struct ν fs)) b o (vstruct vs)) (F s)) (𝓛.H.⇛ Q))
     → ent 𝓤 Q (C g (values_of b o vs pk ++ (us ++ [])) Ret)
@@ -132,19 +136,19 @@ picks 𝓛 C Λ fm n k μ δ ν fs π τs pk g b o vs us ty S share P F Q Ret Ou
     use1 𝓛 (‵ (fat (share s) (ty_struct ν fs) b o (vstruct vs))) (𝓛.laws.raw_at (share s) (ty_struct ν fs) b o (vstruct vs)) $
     -- [the table's cell; F; the parameters; room for the parts; table; …; room for the result; …]
     move ! (3 ∷ 0 ∷ 4 ∷ []) $ takes ! C Λ _ μ π l₁ _ _ (share s) ν fs b o vs _ (suc (suc (past 0 τs))) pk cs good
-    (behind _ _ (suc (past 0 τs)) (types_of pk) cs (behind _ _ (past 0 τs) (types_of pk) cs (beyond τs bs _ 0 (types_of pk) cs (stands (types_of pk) cs [])))) $
+    (behind _ ((ty_ref (named 0) μ π, l₁) ∷ env τs bs (env (types_of pk) cs [])) (suc (past 0 τs)) (types_of pk) cs (behind (ty_ref (named 0) μ π, l₁) _ (past 0 τs) (types_of pk) cs (beyond τs bs _ 0 (types_of pk) cs (stands (types_of pk) cs [])))) $
     -- [the parts; the table's cell; table; F; the parameters; …; room for the result; …]
     move ! (1 ∷ []) $ use1 𝓛 (‵ (fat (share s) (raw_ty (ty_struct ν fs)) b o (vstruct vs))) (𝓛.laws.at_raw (share s) (ty_struct ν fs) b o (vstruct vs)) $ move ! (0 ∷ 3 ∷ []) $ use2 𝓛 (later (raw Q)) (mid s) $ await ! tt $
     calls_from ! fm (raw Q) (values_of b o vs pk ++ (us ++ [])) Ret met
-    (operands ! 1 _ (suc (suc (past 0 τs))) (types_of pk) cs (values_of b o vs pk) (of-picks fs b o vs pk good) (behind _ _ (suc (past 0 τs)) (types_of pk) cs (behind _ _ (past 0 τs) (types_of pk) cs (beyond τs bs _ 0 (types_of pk) cs (stands (types_of pk) cs [])))) refl
-    (operands ! 3 _ 2 τs bs us ty (behind _ _ 1 τs bs (behind _ _ 0 τs bs (stands τs bs _))) refl (no_more !))) (λ w.
+    (operands ! 1 _ (suc (suc (past 0 τs))) (types_of pk) cs (values_of b o vs pk) (of-picks fs b o vs pk good) (behind _ ((ty_ref (named 0) μ π, l₁) ∷ env τs bs (env (types_of pk) cs [])) (suc (past 0 τs)) (types_of pk) cs (behind (ty_ref (named 0) μ π, l₁) _ (past 0 τs) (types_of pk) cs (beyond τs bs _ 0 (types_of pk) cs (stands (types_of pk) cs [])))) refl
+    (operands ! 3 _ 2 τs bs us ty (behind _ ((ty_ref (named 0) μ π, l₁) ∷ env τs bs (env (types_of pk) cs [])) 1 τs bs (behind (ty_ref (named 0) μ π, l₁) _ 0 τs bs (stands τs bs (env (types_of pk) cs [])))) refl (no_more !))) (λ w.
     use1 𝓛 (later (given (Of δ w) (raw (Out w)))) (back w) $ await ! tt $ learn ! (λ of.
     -- [what is to be shown; the parts; table; the parameters; …; room for the result; …]
     land ! (from ! (stop !)) (init ! 5 refl of) $ returns ! (look ! 5 refl) $ forget ! 2 refl $ forget ! 5 refl $
     move ! (5 ∷ 6 ∷ []) $ free1 ! $ move ! (2 ∷ 4 ∷ []) $ free1 ! $ move ! (2 ∷ []) $ frees_all ! τs bs us ty _ $ move ! (1 ∷ []) $ frees_all ! (types_of pk) cs (values_of b o vs pk) (of-picks fs b o vs pk good) [] $ free0 ! $ done !))))))))
 
 pub picks-into : {M : Type 1} {𝓤 : Ura M} (𝓛 : Logic 𝓤) (C : Calls 𝓤 𝓛.H) (Λ : Loops 𝓤 𝓛.H) → FmC 𝓤 𝓛.H 𝓛.laws C
-    → (n k : ℕ) (δ : Ty) (ν : Sym) (fs : Tys) (π : Ty) (τs : List Ty) (ℓ : Lifetime) (ε : Ty) (pk : List Pick) (g : Name) (b o : ℕ) (vs : Vals) (us : List Val) → Typed τs us → (i j : ℕ) (c : Val) → Of (slice_ty (ty_ref ℓ mut ε)) (vstruct (vcons (vptr i j) (vcons c vnil)))
+    → (n k : ℕ) (δ : Ty) (ν : Sym) (fs : Tys) (π : Ty) (τs : List Ty) (ℓ : Lifetime) (ε : Ty) (pk : List Pick) (g : Callee) (b o : ℕ) (vs : Vals) (us : List Val) → Typed τs us → (i j : ℕ) (c : Val) → Of (slice_ty (ty_ref ℓ mut ε)) (vstruct (vcons (vptr i j) (vcons c vnil)))
     → (P : SProp 𝓤) (F : Share → SProp 𝓤) (Q : SProp 𝓤) (Ret Out : Val → SProp 𝓤)
     → ent 𝓤 P (𝓛.H.⇛ (ex 𝓤 (λ (s : Share). guard 𝓤 (AllGood fs vs pk) (sep 𝓤 (𝓛.H.at s (raw_ty (ty_struct ν fs)) b o (vstruct vs)) (F s)))))
     → ((s : Share) → ent 𝓤 (sep 𝓤 (𝓛.H.at s (raw_ty (ty_struct ν fs)) b o (vstruct vs)) (F s)) (𝓛.H.⇛ Q))
@@ -159,15 +163,15 @@ picks-into 𝓛 C Λ fm n k δ ν fs π τs ℓ ε pk g b o vs us ty i j c of-sl
     move ! (12 ∷ []) $ use1 𝓛 (later (some (λ (s : Share). given (AllGood fs vs pk) (‵ (fat s (raw_ty (ty_struct ν fs)) b o (vstruct vs)) ⊛ raw (F s))))) before $ await ! tt $ pick ! (λ s. learn ! (λ good. split ! $
     use1 𝓛 (‵ (fat s (ty_struct ν fs) b o (vstruct vs))) (𝓛.laws.raw_at s (ty_struct ν fs) b o (vstruct vs)) $
     move ! (7 ∷ 0 ∷ 10 ∷ []) $ takes ! C Λ _ imm π l₁ _ _ s ν fs b o vs _ (suc (suc (past 1 τs))) pk cs good
-    (behind _ _ (suc (past 1 τs)) (types_of pk) cs (behind _ _ (past 1 τs) (types_of pk) cs (beyond τs bs _ 1 (types_of pk) cs (behind _ _ 0 (types_of pk) cs (stands (types_of pk) cs _))))) $
+    (behind _ ((ty_ref (named 0) imm π, l₁) ∷ env τs bs ((slice_ty (ty_ref ℓ mut ε), l₂) ∷ env (types_of pk) cs ((ty_ref erased mut ε, l₃) ∷ (slice_ty (ty_ref erased mut ε), l₄) ∷ []))) (suc (past 1 τs)) (types_of pk) cs (behind (ty_ref (named 0) imm π, l₁) _ (past 1 τs) (types_of pk) cs (beyond τs bs ((slice_ty (ty_ref ℓ mut ε), l₂) ∷ env (types_of pk) cs ((ty_ref erased mut ε, l₃) ∷ (slice_ty (ty_ref erased mut ε), l₄) ∷ [])) 1 (types_of pk) cs (behind (slice_ty (ty_ref ℓ mut ε), l₂) _ 0 (types_of pk) cs (stands (types_of pk) cs ((ty_ref erased mut ε, l₃) ∷ (slice_ty (ty_ref erased mut ε), l₄) ∷ [])))))) $
     -- [the parts; the table's cell; table; F; the parameters; room for the slice that is lent on; …; room for its pointer; …; the slice; …; …; room for the result; …]
     assigns ! (addr ! (from_at ! (after 0 τs bs _) (fld ! refl (hop ! (look_in ! 9 (sub ! 0 refl (whole !))) (stop !))))) (from_at ! (after (suc (past 0 (types_of pk))) τs bs _ ∙ after 0 (types_of pk) cs _) (stop !)) (init ! 7 refl (tt, tt)) $
     assigns ! (agg ! (and_then ! (load ! (from_at ! (after (suc (past 0 (types_of pk))) τs bs _ ∙ after 0 (types_of pk) cs _) (stop !)) (look ! 7 refl)) (and_then ! (load ! (from_at ! (after 0 τs bs _) (fld ! refl (stop !))) (look_in ! 9 (sub ! 1 refl (whole !)))) (no_more !))))
     (from_at ! (after (suc (past 1 (types_of pk))) τs bs _ ∙ after 1 (types_of pk) cs _) (stop !)) (init ! 5 refl of-slice) $
     move ! (1 ∷ []) $ use1 𝓛 (‵ (fat s (raw_ty (ty_struct ν fs)) b o (vstruct vs))) (𝓛.laws.at_raw s (ty_struct ν fs) b o (vstruct vs)) $ move ! (0 ∷ 3 ∷ []) $ use2 𝓛 (later (raw Q)) (mid s) $ await ! tt $
     calls_from ! fm (raw Q) (values_of b o vs pk ++ (us ++ (vstruct (vcons (vptr i j) (vcons c vnil)) ∷ []))) Ret met
-    (operands ! 1 _ (suc (suc (past 1 τs))) (types_of pk) cs (values_of b o vs pk) (of-picks fs b o vs pk good) (behind _ _ (suc (past 1 τs)) (types_of pk) cs (behind _ _ (past 1 τs) (types_of pk) cs (beyond τs bs _ 1 (types_of pk) cs (behind _ _ 0 (types_of pk) cs (stands (types_of pk) cs _))))) refl
-    (operands ! 3 _ 2 τs bs us ty (behind _ _ 1 τs bs (behind _ _ 0 τs bs (stands τs bs _))) refl (and_then ! (load ! (from_at ! (after (suc (past 1 (types_of pk))) τs bs _ ∙ after 1 (types_of pk) cs _) (stop !)) (look ! 4 refl)) (no_more !)))) (λ w.
+    (operands ! 1 _ (suc (suc (past 1 τs))) (types_of pk) cs (values_of b o vs pk) (of-picks fs b o vs pk good) (behind _ ((ty_ref (named 0) imm π, l₁) ∷ env τs bs ((slice_ty (ty_ref ℓ mut ε), l₂) ∷ env (types_of pk) cs ((ty_ref erased mut ε, l₃) ∷ (slice_ty (ty_ref erased mut ε), l₄) ∷ []))) (suc (past 1 τs)) (types_of pk) cs (behind (ty_ref (named 0) imm π, l₁) _ (past 1 τs) (types_of pk) cs (beyond τs bs ((slice_ty (ty_ref ℓ mut ε), l₂) ∷ env (types_of pk) cs ((ty_ref erased mut ε, l₃) ∷ (slice_ty (ty_ref erased mut ε), l₄) ∷ [])) 1 (types_of pk) cs (behind (slice_ty (ty_ref ℓ mut ε), l₂) _ 0 (types_of pk) cs (stands (types_of pk) cs ((ty_ref erased mut ε, l₃) ∷ (slice_ty (ty_ref erased mut ε), l₄) ∷ [])))))) refl
+    (operands ! 3 _ 2 τs bs us ty (behind _ ((ty_ref (named 0) imm π, l₁) ∷ env τs bs ((slice_ty (ty_ref ℓ mut ε), l₂) ∷ env (types_of pk) cs ((ty_ref erased mut ε, l₃) ∷ (slice_ty (ty_ref erased mut ε), l₄) ∷ []))) 1 τs bs (behind (ty_ref (named 0) imm π, l₁) _ 0 τs bs (stands τs bs ((slice_ty (ty_ref ℓ mut ε), l₂) ∷ env (types_of pk) cs ((ty_ref erased mut ε, l₃) ∷ (slice_ty (ty_ref erased mut ε), l₄) ∷ []))))) refl (and_then ! (load ! (from_at ! (after (suc (past 1 (types_of pk))) τs bs _ ∙ after 1 (types_of pk) cs _) (stop !)) (look ! 4 refl)) (no_more !)))) (λ w.
     use1 𝓛 (later (given (Of δ w) (raw (Out w)))) (back w) $ await ! tt $ learn ! (λ of.
     land ! (from ! (stop !)) (init ! 11 refl of) $ returns ! (look ! 11 refl) $ forget ! 2 refl $ forget ! 4 refl $ forget ! 6 refl $ forget ! 8 refl $ forget ! 11 refl $
     move ! (11 ∷ 12 ∷ []) $ free1 ! $ move ! (2 ∷ 10 ∷ []) $ free1 ! $ move ! (2 ∷ []) $ frees_all ! τs bs us ty _ $ move ! (6 ∷ 7 ∷ []) $ free1 ! $ move ! (1 ∷ []) $ frees_all ! (types_of pk) cs (values_of b o vs pk) (of-picks fs b o vs pk good) _ $

@@ -1,16 +1,18 @@
 -- The machine values of parameters of which the last is a `&mut [E]`.
 --     Lastly, lastly       values of the types τs and then one of the type ρ
---     Sliced, sliced       a value of a slice's type is a pointer and a count
+--     Sliced               a value is a pointer and a count.        EndsSliced, sliced     the last of several is
+--     ends-lent            so is that of a `&mut [E]`
 -- Assumes nothing.
-use mathlib.Core.Path.{◌≡◌, refl, ap}
-use mathlib.Core.Bool.{Bool, true, false, ◌&&◌}
+use mathlib.Core.Path.{◌≡◌, refl, sym, ap, subst}
 use Prim.Native.Nat.{ℕ}
 use mathlib.Core.List.{List, [], ◌∷◌, ◌++◌}
-use lib.Dec.{T as Holds}
-use mir.Syntax.{Lifetime, Ty, ty_ref, ty_int, w64, tcons, tnil, mut}
-use mir.Val.{Val, Vals, vunit, vbool, vint, vfloat, vptr, vstruct, vcons, vnil, has_ty, has_tys}
-use denote.Laws.{Typed}
-use denote.Slice.{slice_ty}
+use mir.Syntax.{Ty, named}
+use mir.Val.{Val, vptr, vstruct, vcons, vnil}
+use contract.Lifetimes.{Lfts, Within, lft_at}
+use denote.RattleType.{RattleType, Denots, Valss, flat}
+use denote.Laws.{Typed, Are, Ises}
+use denote.Signature.{mut_slice, types_at}
+use denote.Slice.{mut_slice_Tells}
 use Rattle.walks.proofs.Thin.{Of}
 
 abbrev pub Lastly : List Ty → Ty → List Val → Type 0
@@ -28,26 +30,21 @@ lastly (τ ∷ τs) ρ (v ∷ vs) ty =
 abbrev pub Sliced : Val → Type 0
 Sliced u = (i : ℕ) × (j : ℕ) × (c : Val) × (u ≡ vstruct (vcons (vptr i j) (vcons c vnil)))
 
-no-and : (b : Bool) → Holds (b && false) → ⊥
-no-and true h = h
-no-and false h = h
+-- the last of the values is a pointer and a count. Its MIR type alone does not say so: the null pointer has a reference's type too
+abbrev pub EndsSliced : List Val → Type 0
+EndsSliced [] = ⊥
+EndsSliced (u ∷ []) = Sliced u
+EndsSliced (u ∷ v ∷ vs) = EndsSliced (v ∷ vs)
 
-module _ (ℓ : Lifetime) (ε : Ty) where
-  fields-sliced : (v : Val) (vs : Vals) → Holds (has_tys (tcons (ty_ref ℓ mut ε) (tcons (ty_int w64) tnil)) (vcons v vs)) → Sliced (vstruct (vcons v vs))
-  fields-sliced vunit vs h = absurd h
-  fields-sliced (vbool b) vs h = absurd h
-  fields-sliced (vint w n) vs h = absurd h
-  fields-sliced (vfloat f x) vs h = absurd h
-  fields-sliced (vstruct us) vs h = absurd h
-  fields-sliced (vptr i j) vnil h = absurd h
-  fields-sliced (vptr i j) (vcons c vnil) h = (i, j, c, refl)
-  fields-sliced (vptr i j) (vcons c (vcons d vs)) h = absurd (no-and (has_ty (ty_int w64) c) h)
+pub sliced : (us : List Val) (u : Val) (vs : List Val) → vs ≡ us ++ (u ∷ []) → EndsSliced vs → Sliced u
+sliced us u vs e h = at_end us (subst EndsSliced e h)
+  where
+    at_end : (us : List Val) → EndsSliced (us ++ (u ∷ [])) → Sliced u
+    at_end [] h = h
+    at_end (v ∷ []) h = h
+    at_end (v ∷ w ∷ us) h = at_end (w ∷ us) h
 
-  pub sliced : (u : Val) → Holds (has_ty (slice_ty (ty_ref ℓ mut ε)) u) → Sliced u
-  sliced vunit h = absurd h
-  sliced (vbool b) h = absurd h
-  sliced (vint w n) h = absurd h
-  sliced (vfloat f x) h = absurd h
-  sliced (vptr i j) h = absurd h
-  sliced (vstruct vnil) h = absurd h
-  sliced (vstruct (vcons v vs)) h = fields-sliced v vs h
+-- a `&mut [E]` that is the one parameter after the first
+pub ends-lent : (n j : ℕ) (ok : Within n j) (R : RattleType) (κs : Lfts n) (a : Denots (types_at (mut_slice j ok (λ _. R) ∷ []) κs)) (vss : Valss (types_at (mut_slice j ok (λ _. R) ∷ []) κs))
+    → Are (types_at (mut_slice j ok (λ _. R) ∷ []) κs) (Ises (types_at (mut_slice j ok (λ _. R) ∷ []) κs)) a vss → EndsSliced (flat (types_at (mut_slice j ok (λ _. R) ∷ []) κs) vss)
+ends-lent n j ok R κs a vss are = subst (λ (us : List Val). EndsSliced (us ++ [])) (sym (mut_slice_Tells (named j) (lft_at n j ok κs) R a.0 vss.0 are.0)) (a.0.ref_ptr.0, a.0.ref_ptr.1, _, refl)
