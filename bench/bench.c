@@ -4,6 +4,7 @@
 #include "input.h"
 #include "plain.h"
 
+#include <stdbool.h>
 #include <stdio.h>
 #include <stdlib.h>
 #include <string.h>
@@ -409,8 +410,30 @@ static void measure_stack(const struct operation *operation)
     printf(" %8zu %8zu\n", ours, theirs);
 }
 
+// ---- Calls to be counted from outside ----
+
+// calls FUNCTION INPUT CODE TIMES: makes these calls and no others. bench/count counts the instructions of one.
+static int make_calls(char **words)
+{
+    for (const struct operation *operation = operations; operation < operations + OPERATIONS; operation++) {
+        if (strcmp(operation->function, words[0]) != 0 || strcmp(operation->timed_on, words[1]) != 0)
+            continue;
+        prepare(operation);
+        const bool ours = strcmp(words[2], library.name) == 0;
+        for (int left = atoi(words[3]); left > 0; left--)
+            run_again(operation, ours ? &library : &plain, ours ? &lent_library : &lent_plain);
+        return 0;
+    }
+    fail(words[0], "not in the table of operations");
+    return 1;
+}
+
 int main(int count, char **words)
 {
+    if (count == 6 && strcmp(words[1], "calls") == 0) {
+        build_inputs();
+        return make_calls(words + 2);
+    }
     printf("%s\n", count > 1 ? words[1] : "machine not named");
     check_table();
     build_inputs();

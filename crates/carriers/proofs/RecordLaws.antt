@@ -35,7 +35,6 @@ use Rattle.filling.proofs.GoodReading.{Room, enough}
 use Rattle.record.proofs.WrittenAgain.{reading-again}
 use Rattle.record.proofs.WritingLaws.{lists-accepted}
 use Rattle.record.proofs.AcceptedLaws.{answer-accepted, answer-refused}
-use Rattle.questions.specs.declared.answers.Given.TheVariants.{Refused}
 use Rattle.questions.specs.Question.{Lent, looking, farm_of_record, marks_of, settled_in}
 use Rattle.questions.specs.Accepted.{Accepted, marks_on}
 use Rattle.carriers.specs.Loading.{losses_left, seats_left, times_left, sizes_of, loss_count}

@@ -82,9 +82,9 @@ module _ (s t : ℕ) where
           ∙ sym (none p ℓ (time-far farm t (omega (arith, small.rounds)) s))
       by (inr near) (inr close) = rw (sym (near-number 255 s near), sym (near-number 65535 t close)) refl
 
-  view_in : (lent : Lent) (farm : Farm) → Small farm → view_in lent farm p' ℓ' ≡ view_in lent farm p ℓ
+  view-in : (lent : Lent) (farm : Farm) → Small farm → view_in lent farm p' ℓ' ≡ view_in lent farm p ℓ
   unfolding view_in provided
-  view_in lent farm small = placed farm small (view_in lent farm) (λ q k e. rw e refl)
+  view-in lent farm small = placed farm small (view_in lent farm) (λ q k e. rw e refl)
 
   known-in : (farm : Farm) → Small farm → known_in farm p' ℓ' ≡ known_in farm p ℓ
   unfolding known_in provided
@@ -112,7 +112,7 @@ module _ (s t : ℕ) where
 
   module _ (reading : Reading) (sound : Sound reading) where
     pub view-wide : (lent : Lent) → view_asked lent reading p' ℓ' ≡ view_asked lent reading p ℓ
-    view-wide lent = on-reading reading sound _ _ (λ r small. view_in lent (farm_of_record r) small)
+    view-wide lent = on-reading reading sound _ _ (λ r small. view-in lent (farm_of_record r) small)
 
     pub core-wide : (lent : Lent) → core_asked lent reading p' ℓ' ≡ core_asked lent reading p ℓ
     core-wide lent = on-reading reading sound _ _ (λ r small. ap (looking _) (settled-in lent _ (farm_of_record r) small))

@@ -4,7 +4,6 @@ use Rattle.carriers.specs.Carried.{agreed_for}
 use lib.Seq.{length-take-le}
 use mathlib.Core.Path.{sym, ◌∙◌}
 use native.Mathlib.Omega.{arith}
-use borrow.Author.Rules.{rules}
 use Rattle.carriers.proofs.carried.agreed_in.Goals as goal
 
 pub slice_bounds-ask_agreed-end : goal.slice_bounds-ask_agreed-end

@@ -3,7 +3,6 @@
 use Rattle.carriers.specs.Carried.{on_checked}
 use lib.Seq.{length-take-le}
 use mathlib.Core.Path.{refl, sym, ◌∙◌}
-use borrow.Author.Rules.{rules}
 use Rattle.carriers.proofs.carried.marks_in.Goals as goal
 
 pub slice_bounds-ask_marks-end : goal.slice_bounds-ask_marks-end

@@ -1,7 +1,6 @@
 -- `carriers::carried::seen_in` meets its contract: the record's refusal, or the question on the accepted record.
 -- Assumes nothing.
 use Rattle.carriers.specs.Carried.{on_checked}
-use borrow.Author.Rules.{rules}
 use Rattle.carriers.proofs.carried.seen_in.Goals as goal
 
 pub ask_seen-requires : goal.ask_seen-requires

@@ -2,7 +2,6 @@
 -- Assumes nothing.
 use Rattle.carriers.specs.Carried.{on_checked}
 use mathlib.Core.Path.{refl}
-use borrow.Author.Rules.{rules}
 use Rattle.carriers.proofs.carried.standing_in.Goals as goal
 
 pub returns-in-Refused : goal.returns-in-Refused

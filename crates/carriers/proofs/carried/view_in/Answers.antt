@@ -2,7 +2,6 @@
 -- Assumes nothing.
 use Rattle.carriers.specs.Carried.{on_checked}
 use mathlib.Core.Path.{refl}
-use borrow.Author.Rules.{rules}
 use Rattle.carriers.proofs.carried.view_in.Goals as goal
 
 pub ask_view_into-requires : goal.ask_view_into-requires
