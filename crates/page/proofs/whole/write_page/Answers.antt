@@ -6,7 +6,7 @@ use Rattle.page.proofs.PageLaws.{read-good, read-bad, page-nowhere, page-put, pa
 use Rattle.page.proofs.whole.write_page.Goals as goal
 
 pub returns-then-out-lt-PAGE_ROOM : goal.returns-then-out-lt-PAGE_ROOM
-returns-then-out-lt-PAGE_ROOM c = page-nowhere _ c.args.out.now c.if-out-lt-PAGE_ROOM.true
+returns-then-out-lt-PAGE_ROOM c = page-nowhere _ c.args.out.now (omega arith)
 
 pub put_page-requires : goal.put_page-requires
 put_page-requires c =
@@ -18,11 +18,11 @@ put_page-requires c =
     c.read-checked.ensures c.in-Good.header
     (λ i. omega (arith, c.type_inv.bytes i))
     c.in-Good.is (omega arith) (omega arith) (omega arith) in
-    (found.0, c.if-out-lt-PAGE_ROOM.false)
+    (found.0, omega arith)
 
 pub returns-in-Refused : goal.returns-in-Refused
 returns-in-Refused c =
-    page-printed c.if-out-lt-PAGE_ROOM.false
+    page-printed (omega arith)
     (read-bad c.args.bytes.now _ _ c.read-checked.result
     (record { losses = search rules; seats = search rules; times = search rules; cells = search rules; changes = search rules })
     c.read-checked.ensures _ _ c.in-Refused.is c.number.ensures)
@@ -38,4 +38,4 @@ returns-in-Good c =
     c.read-checked.ensures c.in-Good.header
     (λ i. omega (arith, c.type_inv.bytes i))
     c.in-Good.is (omega arith) (omega arith) (omega arith) in
-    page-put c.if-out-lt-PAGE_ROOM.false found.1 c.put_page.ensures
+    page-put (omega arith) found.1 c.put_page.ensures
