@@ -27,7 +27,7 @@ less a b = (ltb-true a b, lt-ltb a b)
 -- Of a question.
 pub asked-test : {A : Type 0} (words : Type 0) (tests : List Test) (later : ℕ → Type 0) (b : Bool) (f : Refusal) (x : Asked A)
     → (b ≡ true) ↔ words → (words → GiveThen tests later (asked_number x))
-    → GiveThen (number_of f unless words ∷ tests) later (asked_number (provided b f x))
+    → GiveThen (◌unless◌ (number_of f) words ∷ tests) later (asked_number (provided b f x))
 unfolding GiveThen asked_number provided
 asked-test words tests later true f x same rest = inl (same.0 refl, rest (same.0 refl))
 asked-test words tests later false f x same rest = inr (λ w. true≢false (sym (same.1 w)), refl)
@@ -36,7 +36,7 @@ asked-test words tests later false f x same rest = inr (λ w. true≢false (sym 
 module _ (num : Verdict → ℕ) (numbered : (f : Refusal) → num (faulty f) ≡ number_of f) where
   pub verdict-test : (words : Type 0) (tests : List Test) (later : ℕ → Type 0) (b : Bool) (f : Refusal) (v : Verdict)
       → (b ≡ true) ↔ words → (words → GiveThen tests later (num v))
-      → GiveThen (number_of f unless words ∷ tests) later (num ((unless) b f v))
+      → GiveThen (◌unless◌ (number_of f) words ∷ tests) later (num ((unless) b f v))
   unfolding GiveThen unless
   verdict-test words tests later true f v same rest = inl (same.0 refl, rest (same.0 refl))
   verdict-test words tests later false f v same rest = inr (λ w. true≢false (sym (same.1 w)), numbered f)

@@ -22,7 +22,6 @@ use Rattle.knowledge.specs.Views.{latest_times}
 use Rattle.knowledge.specs.Settled.{Settled, over_bound, settled, settle_from, settle, outcome_of}
 use Rattle.knowledge.proofs.Promises.{known-of-a-place-is-computed}
 use Rattle.record.specs.Record.{Record, good, bad}
-use Rattle.record.specs.Writing.{unless, count}
 use Rattle.questions.specs.Question.{Asked, found, refused, provided, Lent, by_value, buffer, fits, is_place, of_outcome, looking, farm_of_record, marks_of, count_of, view_in, known_in, settled_in, loser_in, on_record}
 use Rattle.conditions.specs.Order.{◌unless◌, GiveThen, Give, asked_number}
 use Rattle.conditions.specs.Rules.{AtMostSeats}

@@ -24,7 +24,7 @@ use Rattle.record.specs.Faults.{NumberFault, ends_early, too_long, not_shortest,
 use Rattle.record.specs.Record.{Record, Reading, good, bad}
 use Rattle.record.specs.Tables.{Tables, roomy, read_into, tables_after, TablesRead}
 use Rattle.record.specs.Taking.{IsBytes}
-use Rattle.record.specs.Writing.{Verdict, accepted, faulty, unless, judged, judged_edits, judged_lists, checked_lists, edits_in, header_from, record_from, fitting, Written, count, unwritten, needed, needed_by, answered, written_to, buffer_after, buffer_with}
+use Rattle.record.specs.Writing.{Verdict, accepted, faulty, judged, judged_edits, judged_lists, checked_lists, edits_in, header_from, record_from, fitting, Written, count, unwritten, needed, needed_by, answered, written_to, buffer_after, buffer_with}
 use Rattle.record.proofs.Promises.{document-numbers-fit, reads-exactly-good-records, refused-exactly-for-its-fault}
 use Rattle.record.proofs.WritingLaws.{fitting-elim, fitting-intro, refused-leaves}
 use Rattle.conditions.specs.Order.{◌unless◌, GiveThen, Give, read_number, written_number, checked_number}

@@ -60,7 +60,7 @@ call-number : Verdict → ℕ
 call-number v = done_number (done_of v)
 
 call-test : (words : Type 0) (tests : List Test) (b : Bool) (f : Refusal) (v : Verdict) → (b ≡ true) ↔ words → (words → Give tests (call-number v))
-    → Give (number_of f unless words ∷ tests) (call-number ((unless) b f v))
+    → Give (◌unless◌ (number_of f) words ∷ tests) (call-number ((unless) b f v))
 unfolding call-number done_of done_number
 call-test words tests b f v = verdict-test call-number (λ refusal. refl) words tests _ b f v
 

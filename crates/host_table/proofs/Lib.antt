@@ -1,3 +1,5 @@
 pub mod WideLaws
+pub mod Lending
+pub mod Handing
 pub mod CompleteLaws
 pub mod Runs

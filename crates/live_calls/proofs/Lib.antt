@@ -1,2 +1,4 @@
+pub mod Live
+pub mod Stepped
 pub mod ContractRuns
 pub mod CompleteLaws

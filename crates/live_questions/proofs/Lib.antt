@@ -1,4 +1,5 @@
 pub mod WriteLaws
 pub mod CarriedLaws
+pub mod Parts
 pub mod CompleteLaws
 pub mod Promises

@@ -1,0 +1,11 @@
+-- `list_questions::asks::agreed` meets its contract: a carrier is its reading, then the accepted question.
+-- Assumes nothing.
+use Rattle.carriers.proofs.CarriedLaws.{loaded, agreed-carried}
+use mathlib.Core.Path.{◌∙◌}
+use Rattle.list_questions.proofs.asks.agreed.Goals as goal
+
+pub agreed_in-requires : goal.agreed_in-requires
+agreed_in-requires c = loaded c.check_lists-checked.ensures
+
+pub returns : goal.returns
+returns c = c.agreed_in.ensures ∙ agreed-carried c.check_lists-checked.ensures _ _

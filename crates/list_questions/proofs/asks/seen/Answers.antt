@@ -1,0 +1,11 @@
+-- `list_questions::asks::seen` meets its contract: a carrier is its reading, then the accepted question.
+-- Assumes nothing.
+use Rattle.carriers.proofs.CarriedLaws.{sized, seen-carried}
+use mathlib.Core.Path.{◌∙◌}
+use Rattle.list_questions.proofs.asks.seen.Goals as goal
+
+pub seen_in-requires : goal.seen_in-requires
+seen_in-requires c = sized c.check_lists-checked.ensures
+
+pub returns : goal.returns
+returns c = c.seen_in.ensures ∙ seen-carried c.check_lists-checked.ensures _ _
