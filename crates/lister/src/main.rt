@@ -23,10 +23,16 @@ fn unreadable(rt: &HostRuntime) {
 // What a person may have meant otherwise. The page is printed all the same.
 fn warn(rt: &HostRuntime, taken: usize) {
     if taken == 0 {
-        complain(rt, b"lister: there is no input, which is the empty record\n");
+        complain(
+            rt,
+            b"lister: there is no input, which is the empty record\n",
+        );
     }
     if taken == TAKEN {
-        complain(rt, b"lister: the input has more than 4,990 bytes, of which 4,991 are taken\n");
+        complain(
+            rt,
+            b"lister: the input has more than 4,990 bytes, of which 4,991 are taken\n",
+        );
     }
 }
 

@@ -1,9 +1,8 @@
 -- `lister::input::take_input` meets its contract: what follows each read keeps what is taken within the room. Assumes nothing.
-use Rattle.std.proofs.Common.{rules, ◌≡◌, ◌≤◌, ◌<◌, ◌+◌, ◌-◌, ◌∙◌, ℕ, List, ℤ, length, take, drop, sym, arith, length-take, length-drop}
+use Rattle.std.proofs.Common.{rules, ◌≡◌, ◌≤◌, ◌+◌, ◌-◌, ◌∙◌, ℕ, List, length, take, drop, sym, arith, length-take, length-drop}
 use mir.Syntax.{w64}
-use mir.Val.{to_z, of_z}
 use mir.ValLaws.{to_z-of_z}
-use Rattle.taking.specs.Input.{Moved, input_room}
+use Rattle.taking.specs.Input.{input_room}
 use Rattle.taking.proofs.InputLaws.{goes_on, over-within}
 use Rattle.lister.proofs.input.take_input.Goals as goal
 
