@@ -3,4 +3,4 @@
 use Rattle.lister.proofs.listing.list_input.Goals as goal
 
 pub returns : goal.returns
-returns c = (c.in-Taken.ensures tt, c.write_page-printed.ensures)
+returns c = (c.in-Taken.ensures, c.write_page-printed.ensures)
