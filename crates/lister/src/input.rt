@@ -7,7 +7,7 @@ ghost use Rattle.taking.specs.Input.{Moved, Within, input_room};
 use std::io::{Read, Stdin};
 use taking::reads::{Input, Next, after_read};
 
-// A read of what comes next: how many bytes came, or −1.
+// What comes next, in front of the rest: how many bytes came, or −1.
 fn read(stdin: &mut Stdin, rest: &mut [u8]) -> isize
     ensures { Moved (length rest.old) result }
 {

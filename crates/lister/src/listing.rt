@@ -6,6 +6,7 @@ ghost use Rattle.lister.specs.Listing.{Lists};
 use crate::input::take_input;
 use lines::printing::Printed;
 use page::whole::write_page;
+use std::io::Stdin;
 use taking::reads::Input;
 
 #[derive(Clone, Copy)]
@@ -16,11 +17,11 @@ pub enum Listed {
 }
 
 // Takes the input and writes the page of exactly what was taken: of the bytes at the front of the buffer, up to their count.
-pub fn list_input(buffer: &mut [u8], page: &mut [u8]) -> Listed
+pub fn list_input(stdin: &mut Stdin, buffer: &mut [u8], page: &mut [u8]) -> Listed
     requires { length buffer.old ≡ input_room }
     ensures { Lists buffer.new page.old page.new result }
 {
-    let input = take_input(buffer);
+    let input = take_input(stdin, buffer);
     let Input::Taken(taken) = input else {
         return Listed::Unreadable;
     };

@@ -1,0 +1,8 @@
+-- `lister::main` is safe and ends: the buffer for the input has the room that taking it asks for, the longest good record and one
+-- byte more. Assumes nothing.
+use Rattle.std.proofs.Common.{sym}
+use Rattle.taking.proofs.InputLaws.{room-is}
+use Rattle.lister.proofs.main.Goals as goal
+
+pub list_input-listed-requires : goal.list_input-listed-requires
+list_input-listed-requires c = sym room-is
