@@ -1,0 +1,9 @@
+-- `host_bytes::asks::ricecrock_bytes_seen` meets its contract, by the question on bytes.
+-- Assumes nothing.
+use mathlib.Core.Path.{refl}
+use native.Mathlib.Omega.{arith}
+use Rattle.host.proofs.AskedLaws.{bytes-sound, seen-asked}
+use Rattle.host_bytes.proofs.asks.ricecrock_bytes_seen.Goals as goal
+
+pub returns : goal.returns
+returns c = seen-asked _ (bytes-sound _ (λ i. omega (arith, c.type_inv.bytes i))) refl _ _ c.seat_of.ensures _ _ c.time_of.ensures c.seen.ensures c.tell_seen.ensures
