@@ -23,7 +23,7 @@ returns-in_default-t c =
     let n-was : Field 2 7 c.args.bytes.now 0 c.in-Value.seats c.in-Value.after_seats.at = field-was 2 7 _ _ _ _ _ c.read_within-n.ensures c.in-Value.is in
     rw (
       n-was.took,
-      field-refused 0 _ _ _ _ _ _ c.read_within-t.ensures c.refusal_of-in_default-t.ensures c.in_default-t.is,
+      field-refused 0 (c.in-Value.seats - 1) _ _ _ _ _ c.read_within-t.ensures c.refusal_of-in_default-t.ensures c.in_default-t.is,
     )
 
 pub returns-in_default-r : goal.returns-in_default-r
