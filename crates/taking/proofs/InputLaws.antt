@@ -6,8 +6,9 @@ use native.Mathlib.Nat.{add-zero}
 use native.Mathlib.Omega.{arith}
 use borrow.Author.Tests.{le-ltb, lt-ltb}
 use lib.Dec.{ltb}
-use lib.IntN.{ℤ, pos, negsuc, nat_abs}
+use lib.IntN.{ℤ, pos, negsuc}
 use lib.Signed.{lt_z}
+use Rattle.io.specs.Counts.{clamp_len}
 use Rattle.record.proofs.LengthLaws.{longest-length}
 use Rattle.taking.specs.Input.{Moved, Within, input_room, next_of}
 use Rattle.taking.specs.declared.reads.Input.{Input}
@@ -26,8 +27,8 @@ failed taken (pos n) e = absurd (true≢false (sym e ∙ le-ltb n 0 (omega arith
 failed taken (negsuc n) e = refl
 
 -- What is not a failure is a count, which lies within what was lent.
-pub counted : (room : ℕ) (got : ℤ) → lt_z got (pos 0) ≡ false → Moved room got → (got ≡ pos (nat_abs got)) × (nat_abs got ≤ room)
-counted room (pos n) e fits = (refl, fits)
+pub counted : (room : ℕ) (got : ℤ) → lt_z got (pos 0) ≡ false → Moved room got → got ≡ pos (clamp_len got room)
+counted room (pos n) e fits = ap pos (omega arith)
 counted room (negsuc n) e fits = absurd (true≢false e)
 
 pub ended : (taken count : ℕ) (got : ℤ) → got ≡ pos count → count ≡ 0 → Over (Taken (taken + count)) ≡ next_of taken got

@@ -27,7 +27,7 @@ pub fn after_read(taken: usize, rest: &[u8], got: isize) -> Next
     if got < 0 {
         return Next::Over(Input::Unreadable);
     }
-    let count = got as usize;
+    let count = io::count(got, rest);
     let now = taken + count;
     if count == 0 {
         return Next::Over(Input::Taken(now));
