@@ -2,7 +2,7 @@
 --     ask-parts    fn f(table: &Table, ..) -> X { g(&table.losses, table.seats, .., ..) }, with the fields in g's order and then f's other parameters
 --     ask-parts-into   the same where the last of these is a `&mut [E]`
 -- Assumes nothing.
-use mathlib.Core.Path.{◌≡◌, refl}
+use mathlib.Core.Path.{◌≡◌, refl, ◌∙◌, ap}
 use Prim.Native.Nat.{ℕ, suc}
 use mathlib.Core.List.{List, [], ◌∷◌, ◌++◌}
 use seplogic.Ra.Ura.{Ura}
@@ -11,15 +11,13 @@ use prog.Model.{Model}
 use prog.Routine.{Routine, Env}
 use prog.Wp.{Closed}
 use types.Logic.{Logic}
-use contract.Lifetimes.{Lfts}
 use contract.Running.{Running, tables, tables_of}
 use denote.Array.{Array}
 use denote.Builtin.{u8, u16, u32, i16}
-use denote.Laws.{Are, Ises}
 use denote.Memory.{pointee}
 use denote.Plain.{uint_Lawful, uint_Makes}
-use denote.RattleType.{RattleType, Denots, Valss, flat}
-use denote.Signature.{Slot, types_at}
+use denote.RattleType.{RattleType}
+use denote.Signature.{Slot}
 use denote.Slice.{slice_ty}
 use denote.Struct.Laws as LL
 use denote.Triple.Clauses.{Ended, Clauses, closing}
@@ -36,7 +34,7 @@ use Rattle.walks.proofs.Answered.{Answer}
 use Rattle.walks.proofs.Picked as picked
 use Rattle.walks.proofs.Picked.{Asker, Field, lent, taken, Fields, picks_of}
 use Rattle.walks.proofs.Picks.{picking, picking-into}
-use Rattle.walks.proofs.Slices.{EndsSliced}
+use Rattle.walks.proofs.Slices.{lent-last, last-lent}
 
 module _ {M : Type 1} {𝓤 : Ura M} (𝓛 : Logic 𝓤) where
   abbrev pub the-seats : Field 𝓛 Table.the_type Table'.the_laws
@@ -104,10 +102,8 @@ module _ {M : Type 1} {𝓤 : Ura M} (𝓛 : Logic 𝓤) (𝓜 : Model 𝓤 𝓛
     ask-parts has = entered 𝓤 H (triple_of 𝓛 (Asker Table.the_type m ps ks X).signature (closing 𝓛 (Asker Table.the_type m ps ks X) c)) (tables 𝓤 H 𝓜 𝓡 γ).C (tables 𝓤 H 𝓜 𝓡 γ).Λ key _ has
         (picked.picked 𝓛 Table.the_type Table'.the_laws m Table'.the_copy fs ps ks τs hd.types (hd.laws M 𝓤 𝓛) X an.told (an.typed M 𝓤 𝓛) c c' ag f k (tables_of 𝓤 H 𝓜 (tables 𝓤 H 𝓜 𝓡 γ)) at_key)
 
-    -- the last parameter's machine value is a pointer and a count, as its type's relation says (`Slices.antt`'s `ends-lent`)
     pub ask-parts-into : (σs : List Ty) (ℓ : Lifetime) (ε : Ty) → τs ≡ σs ++ (slice_ty (ty_ref ℓ mut ε) ∷ [])
-        → ((κs : Lfts (suc m)) (a : Denots (types_at ps κs)) (vss : Valss (types_at ps κs)) → Are (types_at ps κs) (Ises (types_at ps κs)) a vss → EndsSliced (flat (types_at ps κs) vss))
         → Has (picking-into (suc m) k an.told (lies Table.the_type) (pointee (Table.the_row).written) σs ℓ ε (picks_of 𝓛 Table.the_type Table'.the_laws fs) f) → Asks
     unfolding tables_of
-    ask-parts-into σs ℓ ε e points has = entered 𝓤 H (triple_of 𝓛 (Asker Table.the_type m ps ks X).signature (closing 𝓛 (Asker Table.the_type m ps ks X) c)) (tables 𝓤 H 𝓜 𝓡 γ).C (tables 𝓤 H 𝓜 𝓡 γ).Λ key _ has
-        (picked.picked-into 𝓛 Table.the_type Table'.the_laws m Table'.the_copy fs ps ks τs hd.types (hd.laws M 𝓤 𝓛) X an.told (an.typed M 𝓤 𝓛) c c' ag f k (tables_of 𝓤 H 𝓜 (tables 𝓤 H 𝓜 𝓡 γ)) at_key σs ℓ ε e points)
+    ask-parts-into σs ℓ ε e has = entered 𝓤 H (triple_of 𝓛 (Asker Table.the_type m ps ks X).signature (closing 𝓛 (Asker Table.the_type m ps ks X) c)) (tables 𝓤 H 𝓜 𝓡 γ).C (tables 𝓤 H 𝓜 𝓡 γ).Λ key _ has
+        (picked.picked-into 𝓛 Table.the_type Table'.the_laws m Table'.the_copy fs ps ks τs hd.types (hd.laws M 𝓤 𝓛) X an.told (an.typed M 𝓤 𝓛) c c' ag f k (tables_of 𝓤 H 𝓜 (tables 𝓤 H 𝓜 𝓡 γ)) at_key σs ℓ ε e (hd.ends M 𝓤 𝓛 (ap lent-last e ∙ last-lent σs ℓ ε)))

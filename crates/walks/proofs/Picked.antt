@@ -264,7 +264,7 @@ module _ {M : Type 1} {𝓤 : Ura M} (𝓛 : Logic 𝓤) (TT : Declared) (L : LL
           pub picked : Meets 𝓛 T.signature (WpFn 𝓤 H 𝓣.C 𝓣.Λ code) (closing 𝓛 T c)
           picked = enters 𝓛 (suc n) (λ κs. ShrRef (named 0) κs.0 (row TT)) ps (plain (λ _. X)) σs (λ κs. shr_vals) (λ κs. shr_Tells (named 0) κs.0 (row TT)) types laws (closing 𝓛 T c) (WpFn 𝓤 H 𝓣.C 𝓣.Λ code) core
 
-          -- the last parameter's machine value is a pointer and a count, as its type's relation says (`Slices.antt`'s `ends-lent`)
+          -- the last parameter's machine value is a pointer and a count, as its type's relation says (`Handed.antt`'s `ends`)
           pub picked-into : (τs : List Ty) (ℓ : Lifetime) (ε : Ty) → σs ≡ τs ++ (slice_ty (ty_ref ℓ mut ε) ∷ [])
               → ((κs : Lfts (suc n)) (a : Denots (types_at ps κs)) (vss : Valss (types_at ps κs)) → Are (types_at ps κs) (Ises (types_at ps κs)) a vss → EndsSliced (flat (types_at ps κs) vss))
               → Meets 𝓛 T.signature (WpFn 𝓤 H 𝓣.C 𝓣.Λ (code-into τs ℓ ε)) (closing 𝓛 T c)
