@@ -7,13 +7,11 @@ use Prim.Native.Nat.{ℕ, zero, suc, ◌+◌, ◌*◌, ◌^◌, ◌<◌, ◌≤�
 use native.Mathlib.Nat.{mul-le-mul}
 use native.Mathlib.Omega.{arith}
 use lib.ListN.{length, get_or, length-append}
+use Rattle.std.specs.Prelude.{Option, None, Some, Ok, Err}
 use Rattle.farm.specs.Limits.{Limits, limits}
 use Rattle.farm.specs.declared.refusals.Refusal.{Refusal}
 use Rattle.farm.specs.declared.refusals.Refusal.TheVariants.{OutOfRange, BadLengths}
 use Rattle.record.specs.declared.edits.Edit.{Edit}
-use Rattle.record.specs.declared.edits.Before.{Before}
-use Rattle.record.specs.declared.edits.Before.TheVariants.{Nothing, This}
-use Rattle.record.specs.declared.answers.Judged.TheVariants.{Accepted, Refused}
 use Rattle.record.specs.Lengths.{numbers_length, changes_length}
 use Rattle.record.specs.Header.{header_bytes}
 use Rattle.record.specs.Losses.{first_seat, loss_bytes}
@@ -30,26 +28,26 @@ use Rattle.record.proofs.LengthLaws.{record-length, record-most, sets-length, ed
 
 -- ════ The judging code's answers ════
 
-pub answer-accepted : (v : Verdict) → judged_in v ≡ Accepted → v ≡ accepted
+pub answer-accepted : (v : Verdict) → judged_in v ≡ Ok tt → v ≡ accepted
 unfolding judged_in
 answer-accepted accepted e = refl
 answer-accepted (faulty r) e = let z : ◌≡◌ {A = ℕ} 0 1 = cc in absurd (omega arith)
 
-pub answer-refused : (v : Verdict) (r : Refusal) → judged_in v ≡ Refused r → v ≡ faulty r
+pub answer-refused : (v : Verdict) (r : Refusal) → judged_in v ≡ Err r → v ≡ faulty r
 unfolding judged_in
 answer-refused accepted r e = let z : ◌≡◌ {A = ℕ} 0 1 = cc in absurd (omega arith)
 answer-refused (faulty q) r e = let same : q ≡ r = cc in ap faulty same
 
 -- ════ Accepted lists ════
 
-good-cells : (L : Limits) (n R : ℕ) (before : Before) (edits : List Edit) → good_edits L n R before edits ≡ true
+good-cells : (L : Limits) (n R : ℕ) (before : Option Edit) (edits : List Edit) → good_edits L n R before edits ≡ true
     → (i : ℕ) → get_or (cells_of edits) i 0 ≤ L.largest_cell
 unfolding good_edits cells_of
 good-cells L n R before [] g i = omega arith
 good-cells L n R before (e ∷ edits) g zero =
-    (edit-facts L n R e (and3-elim (good_edit L n R e) (follows before e) (good_edits L n R (This e) edits) g).0).cell
+    (edit-facts L n R e (and3-elim (good_edit L n R e) (follows before e) (good_edits L n R (Some e) edits) g).0).cell
 good-cells L n R before (e ∷ edits) g (suc i) =
-    good-cells L n R (This e) edits (and3-elim (good_edit L n R e) (follows before e) (good_edits L n R (This e) edits) g).2 i
+    good-cells L n R (Some e) edits (and3-elim (good_edit L n R e) (follows before e) (good_edits L n R (Some e) edits) g).2 i
 
 module _ (n t R : ℕ) (lists : Tables) where
   abbrev pub size_of : ℕ
@@ -81,7 +79,7 @@ module _ (n t R : ℕ) (lists : Tables) where
         let f = accepted-lengths in
         let same = (columns-from-edits lists.seats lists.times lists.cells lists.changes f.times f.cells f.changes).cells_same in
         let sound = (record-facts limits _ (lists-accepted limits n t R lists _ (checked-good limits v)).sound).edits in
-        let small = rw same at (good-cells limits n R Nothing (edits_in lists) sound i) in
+        let small = rw same at (good-cells limits n R None (edits_in lists) sound i) in
         omega arith
 
     -- The good record that the lists are.
@@ -98,7 +96,7 @@ module _ (n t R : ℕ) (lists : Tables) where
     accepted-edits =
         let f = accepted-lengths in
         let same = columns-from-edits lists.seats lists.times lists.cells lists.changes f.times f.cells f.changes in
-        let parts = edits-exactly n R Nothing (edits_in lists) accepted-header.most accepted-header.rounds accepted-facts.edits in
+        let parts = edits-exactly n R None (edits_in lists) accepted-header.most accepted-header.rounds accepted-facts.edits in
         rw (same.count, same.cells_same, same.changes-same) at parts
 
     pub accepted-sets-few : length lists.losses ≤ 889

@@ -1,50 +1,19 @@
--- The laws of edits: their order, the four fields of one, and a list of them, edit by edit.
+-- The laws of edits: the four fields of one, and a list of them, edit by edit.
 -- Assumes nothing.
-use mathlib.Core.Path.{◌≡◌, refl, sym, ◌∙◌, ap}
-use mathlib.Core.Bool.{Bool, true, false, ◌||◌}
+use mathlib.Core.Path.{◌≡◌, sym, ◌∙◌, ap}
 use mathlib.Core.List.{List}
 use Prim.Native.Nat.{ℕ, zero, suc, ◌-◌}
-use native.Mathlib.Nat.{le_of_eq}
-use lib.Dec.{ltb}
-use borrow.Author.Tests.{eq-eqb, ne_eqb, le-ltb}
+use Rattle.std.specs.Prelude.{Option, Some}
 use Rattle.farm.specs.Limits.{Limits}
 use Rattle.farm.specs.declared.refusals.Refusal.TheVariants.{BadOrder}
 use Rattle.record.specs.declared.edits.Edit.{Edit}
-use Rattle.record.specs.declared.edits.Before.{Before}
-use Rattle.record.specs.declared.edits.Before.TheVariants.{This}
 use Rattle.record.specs.Taking.{value, when}
 use Rattle.record.specs.Numbers.{take_within}
 use Rattle.record.specs.Changes.{mapped, unmapped}
-use Rattle.record.specs.Edits.{rises, follows, take_edit, take_edits}
+use Rattle.record.specs.Edits.{follows, take_edit, take_edits}
 use Rattle.record.proofs.TakingLaws.{bind-value, when-value, Tail, tail_all, tail-trans}
 use Rattle.record.proofs.NumberLaws.{within-tail}
 use Rattle.record.proofs.ChangeLaws.{mapped-unmapped}
-
--- ════ The order ════
-
-or-false : (a : Bool) → (a || false) ≡ a
-or-false true = refl
-or-false false = refl
-
-pub rises-by-time : (a b : Edit) → (a.time.0 ≡ b.time.0 → ⊥) → ltb a.time.0 b.time.0 ≡ rises a b
-unfolding rises
-rises-by-time a b h = rw (ne_eqb a.time.0 b.time.0 h, or-false)
-
-module _ (a b : Edit) (time : a.time.0 ≡ b.time.0) where
-  pub rises-by-seat : (a.seat.0 ≡ b.seat.0 → ⊥) → ltb a.seat.0 b.seat.0 ≡ rises a b
-  unfolding rises
-  rises-by-seat h =
-      rw (le-ltb a.time.0 b.time.0 (le_of_eq (sym time)), eq-eqb a.time.0 b.time.0 time, ne_eqb a.seat.0 b.seat.0 h, or-false)
-
-  pub rises-by-cell : a.seat.0 ≡ b.seat.0 → ltb a.cell b.cell ≡ rises a b
-  unfolding rises
-  rises-by-cell seat =
-      rw (
-        le-ltb a.time.0 b.time.0 (le_of_eq (sym time)),
-        eq-eqb a.time.0 b.time.0 time,
-        le-ltb a.seat.0 b.seat.0 (le_of_eq (sym seat)),
-        eq-eqb a.seat.0 b.seat.0 seat,
-      )
 
 -- ════ One edit ════
 
@@ -97,13 +66,13 @@ module _ (L : Limits) where
 
 -- ════ A list of edits ════
 
-pub edits-tail : (L : Limits) (n R edits : ℕ) (before : Before) (bytes : List ℕ) (es : List Edit) (rest : List ℕ)
+pub edits-tail : (L : Limits) (n R edits : ℕ) (before : Option Edit) (bytes : List ℕ) (es : List Edit) (rest : List ℕ)
     → take_edits L n R edits before bytes ≡ value es rest → Tail rest bytes
 unfolding take_edits
 edits-tail L n R zero before bytes es rest q = let ends : bytes ≡ rest = cc in rw (← ends) (tail_all bytes)
 edits-tail L n R (suc edits) before bytes es rest q =
     let x = bind-value (take_edit L n R bytes) _ es rest q in
-    let y = bind-value (when (follows before x.0) BadOrder (take_edits L n R edits (This x.0) x.1)) _ es rest x.3 in
+    let y = bind-value (when (follows before x.0) BadOrder (take_edits L n R edits (Some x.0) x.1)) _ es rest x.3 in
     let z = when-value (follows before x.0) BadOrder _ y.0 y.1 y.2 in
     let ends : y.1 ≡ rest = cc in
-    tail-trans (rw ends at (edits-tail L n R edits (This x.0) x.1 y.0 y.1 z.1)) (edit-tail L n R bytes x.0 x.1 x.2)
+    tail-trans (rw ends at (edits-tail L n R edits (Some x.0) x.1 y.0 y.1 z.1)) (edit-tail L n R bytes x.0 x.1 x.2)

@@ -8,6 +8,7 @@ use Prim.Native.Nat.{ℕ, zero, suc, ◌-◌, ◌*◌, ◌<◌, ◌≤◌}
 use native.Mathlib.Omega.{arith}
 use lib.ListN.{length}
 use borrow.Author.Tests.{lt-ltb, eq-eqb}
+use Rattle.std.specs.Prelude.{Option, None, Some}
 use Rattle.farm.specs.Limits.{Limits}
 use Rattle.farm.specs.Sets.{Seats}
 use Rattle.farm.specs.declared.places.Seat.{Seat}
@@ -16,8 +17,6 @@ use Rattle.farm.specs.declared.refusals.Refusal.TheVariants.{BadOrder, BytesLeft
 use Rattle.farm.proofs.Cases.{and_intro}
 use Rattle.record.specs.declared.header.Header.{Header}
 use Rattle.record.specs.declared.edits.Edit.{Edit}
-use Rattle.record.specs.declared.edits.Before.{Before}
-use Rattle.record.specs.declared.edits.Before.TheVariants.{Nothing, This}
 use Rattle.record.specs.Taking.{IsBytes, Taken, value, refused, ◌>>=◌, when}
 use Rattle.record.specs.Numbers.{number_bytes, take_number, take_within}
 use Rattle.record.specs.Header.{take_header, header_bytes}
@@ -185,7 +184,7 @@ losses-found L wide bytes h a r g e =
 -- ════ Edits ════
 
 -- The edits before the one that is refused, by a number of its own or by its order.
-record EditsFault (L : Limits) (n R left : ℕ) (before : Before) (bytes : List ℕ) (r : Refusal) : Type 0 where
+record EditsFault (L : Limits) (n R left : ℕ) (before : Option Edit) (bytes : List ℕ) (r : Refusal) : Type 0 where
   edits : List Edit
   rest : List ℕ
   sound : good_edits L n R before edits ≡ true
@@ -195,16 +194,16 @@ record EditsFault (L : Limits) (n R left : ℕ) (before : Before) (bytes : List 
   fault : (take_edit L n R rest ≡ refused r)
       ⊎ ((edit : Edit) × (end : List ℕ) × (take_edit L n R rest ≡ value edit end) × (follows (last_of before edits) edit ≡ false) × (BadOrder ≡ r))
 
-edits-found : (L : Limits) (n R left : ℕ) (before : Before) (bytes : List ℕ) (r : Refusal) → IsBytes bytes
+edits-found : (L : Limits) (n R left : ℕ) (before : Option Edit) (bytes : List ℕ) (r : Refusal) → IsBytes bytes
     → take_edits L n R left before bytes ≡ refused r → EditsFault L n R left before bytes r
 unfolding take_edits good_edits edits_bytes last_of
 edits-found L n R zero before bytes r h e = absurd (value-not-refused [] bytes r e)
 edits-found L n R (suc left) before bytes r h e =
-    by (λ edit rest. edits-found L n R left (This edit) rest r) (bind-refused (take_edit L n R bytes) _ r e)
+    by (λ edit rest. edits-found L n R left (Some edit) rest r) (bind-refused (take_edit L n R bytes) _ r e)
   where
     later : (edit : Edit) (rest : List ℕ) → take_edit L n R bytes ≡ value edit rest
-        → (IsBytes rest → take_edits L n R left (This edit) rest ≡ refused r → EditsFault L n R left (This edit) rest r)
-        → ((follows before edit ≡ false) × (BadOrder ≡ r)) ⊎ ((follows before edit ≡ true) × (take_edits L n R left (This edit) rest ≡ refused r))
+        → (IsBytes rest → take_edits L n R left (Some edit) rest ≡ refused r → EditsFault L n R left (Some edit) rest r)
+        → ((follows before edit ≡ false) × (BadOrder ≡ r)) ⊎ ((follows before edit ≡ true) × (take_edits L n R left (Some edit) rest ≡ refused r))
         → EditsFault L n R (suc left) before bytes r
     later edit rest t below (inl o) = record {
       edits = [];
@@ -228,17 +227,17 @@ edits-found L n R (suc left) before bytes r h e =
           fault = f.fault;
         }
 
-    by : ((edit : Edit) (rest : List ℕ) → IsBytes rest → take_edits L n R left (This edit) rest ≡ refused r → EditsFault L n R left (This edit) rest r)
+    by : ((edit : Edit) (rest : List ℕ) → IsBytes rest → take_edits L n R left (Some edit) rest ≡ refused r → EditsFault L n R left (Some edit) rest r)
         → (take_edit L n R bytes ≡ refused r)
         ⊎ ((edit : Edit) × (rest : List ℕ) × (take_edit L n R bytes ≡ value edit rest)
-        × ((when (follows before edit) BadOrder (take_edits L n R left (This edit) rest) >>= λ x. value (edit ∷ x.0) x.1) ≡ refused r))
+        × ((when (follows before edit) BadOrder (take_edits L n R left (Some edit) rest) >>= λ x. value (edit ∷ x.0) x.1) ≡ refused r))
         → EditsFault L n R (suc left) before bytes r
     by below (inl f) = record { edits = []; rest = bytes; sound = refl; short = omega arith; written = refl; after = h; fault = inl f }
     by below (inr x) =
         ⊎_elim
         (λ w. later x.0 x.1 x.2 (below x.0 x.1) (when-refused (follows before x.0) BadOrder _ r w))
         (λ y. absurd (value-not-refused _ y.1 r y.3))
-        (bind-refused (when (follows before x.0) BadOrder (take_edits L n R left (This x.0) x.1)) _ r x.3)
+        (bind-refused (when (follows before x.0) BadOrder (take_edits L n R left (Some x.0) x.1)) _ r x.3)
 
 module _ (L : Limits) (wide : Wide L) (bytes : List ℕ) (p : Record) (g : good_so_far L p ≡ true) where
   seat-found : (rest : List ℕ) (r : Refusal) → bytes_of L p ++ rest ≡ bytes → IsBytes rest
@@ -316,10 +315,10 @@ module _ (L : Limits) (wide : Wide L) (bytes : List ℕ) where
   -- Header and losses were read, and the edits are refused.
   all-edits-found : (h : Header) (losses : List Seats) (a b : List ℕ) (r : Refusal) → Again (good_header L h ≡ true) (header_bytes L h) a bytes
       → Again ((length losses ≡ h.seats * h.rounds) × (good_sets h.seats first_seat losses ≡ true)) (loss_bytes L losses) b a
-      → take_edits L h.seats h.rounds h.edits Nothing b ≡ refused r → Fault L bytes r
+      → take_edits L h.seats h.rounds h.edits None b ≡ refused r → Fault L bytes r
   unfolding good_so_far good_rounds bytes_of
   all-edits-found h losses a b r H S e =
-      let f = edits-found L h.seats h.rounds h.edits Nothing b r S.after e in
+      let f = edits-found L h.seats h.rounds h.edits None b r S.after e in
       let p : Record = record { header = h; losses = losses; edits = f.edits } in
       let rounds = and_intro _ _ (eq-eqb (length losses) (h.seats * h.rounds) S.sound.0) S.sound.1 in
       let g : good_so_far L p ≡ true = and4-intro _ _ _ _ H.sound rounds (lt-ltb (length f.edits) h.edits f.short) f.sound in
@@ -340,17 +339,17 @@ module _ (L : Limits) (wide : Wide L) (bytes : List ℕ) where
       after-losses : (header : Header) (a : List ℕ) (losses : List Seats) (b : List ℕ)
           → Again (good_header L header ≡ true) (header_bytes L header) a bytes
           → take_rounds L header.seats header.rounds a ≡ value losses b
-          → (take_edits L header.seats header.rounds header.edits Nothing b >>= λ x. value (record_of header losses x.0) x.1) ≡ refused r
+          → (take_edits L header.seats header.rounds header.edits None b >>= λ x. value (record_of header losses x.0) x.1) ≡ refused r
           → Fault L bytes r
       after-losses header a losses b H q e =
           ⊎_elim
           (all-edits-found header losses a b r H (rounds-again L header.seats header.rounds a losses b H.after q))
           (λ x. absurd (value-not-refused _ x.1 r x.3))
-          (bind-refused (take_edits L header.seats header.rounds header.edits Nothing b) _ r e)
+          (bind-refused (take_edits L header.seats header.rounds header.edits None b) _ r e)
 
       after-header : (header : Header) (a : List ℕ) → Again (good_header L header ≡ true) (header_bytes L header) a bytes
           → (take_rounds L header.seats header.rounds a >>= λ x.
-          take_edits L header.seats header.rounds header.edits Nothing x.1 >>= λ y. value (record_of header x.0 y.0) y.1)
+          take_edits L header.seats header.rounds header.edits None x.1 >>= λ y. value (record_of header x.0 y.0) y.1)
           ≡ refused r
           → Fault L bytes r
       after-header header a H e =

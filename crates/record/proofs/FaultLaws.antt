@@ -10,6 +10,7 @@ use native.Mathlib.Omega.{arith}
 use lib.Dec.{eqb}
 use lib.ListN.{length}
 use borrow.Author.Tests.{eqb-true, eqb-false, ltb-true}
+use Rattle.std.specs.Prelude.{None}
 use Rattle.farm.specs.Limits.{Limits}
 use Rattle.farm.specs.Sets.{Seats}
 use Rattle.farm.specs.declared.places.Seat.{Seat}
@@ -18,7 +19,6 @@ use Rattle.farm.specs.declared.refusals.Refusal.TheVariants.{BadOrder}
 use Rattle.farm.proofs.Cases.{and-elim}
 use Rattle.record.specs.declared.header.Header.{Header}
 use Rattle.record.specs.declared.edits.Edit.{Edit}
-use Rattle.record.specs.declared.edits.Before.TheVariants.{Nothing}
 use Rattle.record.specs.Taking.{Taken, value, refused, ◌>>=◌, when}
 use Rattle.record.specs.Numbers.{number_bytes, take_number, take_within}
 use Rattle.record.specs.Header.{take_header, header_bytes}
@@ -106,7 +106,7 @@ module _ (L : Limits) (wide : Wide L) where
     pub header : good_header L p.header ≡ true
     pub rounds : good_rounds p.header.seats p.header.rounds p.losses ≡ true
     pub short : length p.edits < p.header.edits
-    pub edits : good_edits L p.header.seats p.header.rounds Nothing p.edits ≡ true
+    pub edits : good_edits L p.header.seats p.header.rounds None p.edits ≡ true
 
   so_far : (p : Record) → good_so_far L p ≡ true → SoFar p
   unfolding good_so_far
@@ -116,7 +116,7 @@ module _ (L : Limits) (wide : Wide L) where
 
   -- What comes after the edits so far decides, where it is refused.
   edits-refused : (p : Record) (rest : List ℕ) (r : Refusal) → good_so_far L p ≡ true
-      → ((k : ℕ) → take_edits L p.header.seats p.header.rounds (suc k) (last_of Nothing p.edits) rest ≡ refused r)
+      → ((k : ℕ) → take_edits L p.header.seats p.header.rounds (suc k) (last_of None p.edits) rest ≡ refused r)
       → take_record L (bytes_of L p ++ rest) ≡ refused r
   unfolding take_record bytes_of joined ◌>>=◌ good_rounds
   edits-refused p rest r g e =
@@ -132,7 +132,7 @@ module _ (L : Limits) (wide : Wide L) where
         rounds-back L wide p.header.seats p.header.rounds p.losses (edits_bytes L p.edits ++ rest) h.most
             (eqb-true (length p.losses) (p.header.seats * p.header.rounds) rounds.0) rounds.1,
         count,
-        edits-back L wide p.header.seats p.header.rounds (suc k) Nothing p.edits rest h.most h.rounds s.edits,
+        edits-back L wide p.header.seats p.header.rounds (suc k) None p.edits rest h.most h.rounds s.edits,
         e k,
       ))
 
@@ -142,7 +142,7 @@ module _ (L : Limits) (wide : Wide L) where
   edit-refused p rest r g e = edits-refused p rest r g (λ k. rw e)
 
   order-refused : (p : Record) (edit : Edit) (rest : List ℕ) → good_so_far L p ≡ true
-      → good_edit L p.header.seats p.header.rounds edit ≡ true → follows (last_of Nothing p.edits) edit ≡ false
+      → good_edit L p.header.seats p.header.rounds edit ≡ true → follows (last_of None p.edits) edit ≡ false
       → take_record L (bytes_of L p ++ (edit_bytes L edit ++ rest)) ≡ refused BadOrder
   unfolding take_edits ◌>>=◌ when
   order-refused p edit rest g fit f =

@@ -7,13 +7,13 @@ use native.Mathlib.Omega.{arith}
 use lib.Dec.{leb}
 use lib.ListN.{length}
 use borrow.Author.Tests.{leb-true, le-leb, ltb-true, eqb-true, eq-eqb}
+use Rattle.std.specs.Prelude.{None}
 use Rattle.farm.specs.Limits.{Limits}
 use Rattle.farm.specs.Sets.{Seats}
 use Rattle.farm.specs.declared.places.Seat.{Seat}
 use Rattle.farm.proofs.Cases.{and_intro, and-elim}
 use Rattle.record.specs.declared.header.Header.{Header}
 use Rattle.record.specs.declared.edits.Edit.{Edit}
-use Rattle.record.specs.declared.edits.Before.TheVariants.{Nothing}
 use Rattle.record.specs.Changes.{mapped}
 use Rattle.record.specs.Losses.{first_seat, good_set}
 use Rattle.record.specs.Record.{Record}
@@ -115,7 +115,7 @@ pub record RecordFacts (L : Limits) (r : Record) : Type 0 where
   pub loss_count : length r.losses ≡ r.header.seats * r.header.rounds
   pub losses : good_sets r.header.seats first_seat r.losses ≡ true
   pub edit_count : length r.edits ≡ r.header.edits
-  pub edits : good_edits L r.header.seats r.header.rounds Nothing r.edits ≡ true
+  pub edits : good_edits L r.header.seats r.header.rounds None r.edits ≡ true
 
 pub record-facts : (L : Limits) (r : Record) → good_record L r ≡ true → RecordFacts L r
 unfolding good_record good_rounds

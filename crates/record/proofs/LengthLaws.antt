@@ -11,6 +11,7 @@ use lib.IntN.{pos}
 use lib.ListN.{length, length-append, replicate, length-replicate}
 use lib.Pow.{pow_pos}
 use borrow.Author.Tests.{ltb-false, lt-ltb, le-ltb}
+use Rattle.std.specs.Prelude.{Option, None, Some}
 use Rattle.farm.specs.Limits.{Limits, limits}
 use Rattle.farm.specs.Sets.{Seats}
 use Rattle.farm.specs.declared.places.Seat.{Seat}
@@ -18,8 +19,6 @@ use Rattle.farm.proofs.Cases.{and_intro, and-elim}
 use Rattle.farm.proofs.SetLaws.{bit_below}
 use Rattle.record.specs.declared.header.Header.{Header}
 use Rattle.record.specs.declared.edits.Edit.{Edit}
-use Rattle.record.specs.declared.edits.Before.{Before}
-use Rattle.record.specs.declared.edits.Before.TheVariants.{Nothing, This}
 use Rattle.record.specs.Numbers.{groups_of, number_bytes}
 use Rattle.record.specs.Changes.{mapped}
 use Rattle.record.specs.Header.{header_bytes}
@@ -99,14 +98,14 @@ edit-length n R e few short g =
     let d = three-bytes (mapped e.change) f.change in
     simp length-append (omega arith)
 
-edits-length : (n R : ℕ) (before : Before) (edits : List Edit) → n ≤ 7 → R ≤ 127 → good_edits limits n R before edits ≡ true
+edits-length : (n R : ℕ) (before : Option Edit) (edits : List Edit) → n ≤ 7 → R ≤ 127 → good_edits limits n R before edits ≡ true
     → length (edits_bytes limits edits) ≤ 8 * length edits
 unfolding good_edits edits_bytes
 edits-length n R before [] few short g = lit≤ tt
 edits-length n R before (e ∷ edits) few short g =
-    let x = and3-elim (good_edit limits n R e) (follows before e) (good_edits limits n R (This e) edits) g in
+    let x = and3-elim (good_edit limits n R e) (follows before e) (good_edits limits n R (Some e) edits) g in
     let first = edit-length n R e few short x.0 in
-    let below = edits-length n R (This e) edits few short x.2 in
+    let below = edits-length n R (Some e) edits few short x.2 in
     simp length-append (omega arith)
 
 -- A header has at most five bytes, a set one, and an edit at most eight.
@@ -117,7 +116,7 @@ record-most r g =
     let h = header-facts limits r.header f.header in
     let a = header-length r.header f.header in
     let b = sets-length r.header.seats first_seat r.losses h.most f.losses in
-    let c = edits-length r.header.seats r.header.rounds Nothing r.edits h.most h.rounds f.edits in
+    let c = edits-length r.header.seats r.header.rounds None r.edits h.most h.rounds f.edits in
     simp length-append (omega arith)
 
 pub record-length : (r : Record) → good_record limits r ≡ true → length (bytes_of limits r) ≤ 4990
@@ -137,16 +136,16 @@ unfolding number_bytes groups_of
 exactly-three v h = rw (le-ltb v 128 (omega arith), le-ltb (v / 128) 128 (omega arith))
 
 -- The seat and the time of an edit take one byte each.
-pub edits-exactly : (n R : ℕ) (before : Before) (edits : List Edit) → n ≤ 7 → R ≤ 127 → good_edits limits n R before edits ≡ true
+pub edits-exactly : (n R : ℕ) (before : Option Edit) (edits : List Edit) → n ≤ 7 → R ≤ 127 → good_edits limits n R before edits ≡ true
     → length (edits_bytes limits edits) ≡ 2 * length edits + numbers_length limits (cells_of edits) + changes_length limits (changes_of edits)
 unfolding good_edits edits_bytes edit_bytes cells_of changes_of numbers_length changes_length
 edits-exactly n R before [] few short g = refl
 edits-exactly n R before (e ∷ edits) few short g =
-    let x = and3-elim (good_edit limits n R e) (follows before e) (good_edits limits n R (This e) edits) g in
+    let x = and3-elim (good_edit limits n R e) (follows before e) (good_edits limits n R (Some e) edits) g in
     let f = edit-facts limits n R e x.0 in
     let s = exactly-one e.seat.0 (omega arith) in
     let t = exactly-one e.time.0 (omega arith) in
-    let below = edits-exactly n R (This e) edits few short x.2 in
+    let below = edits-exactly n R (Some e) edits few short x.2 in
     simp length-append (omega arith)
 
 long-edits-bytes : (cell left : ℕ) → 16384 ≤ cell → length (edits_bytes limits (long_edits cell left)) ≡ 8 * left
@@ -188,7 +187,7 @@ long-edit-good cell h =
     edit-from-facts limits 7 127 (edit_of 0 0 cell (pos 8192)) (record { seat = lit≤ tt; time = lit≤ tt; cell = h; change = lit≤ tt })
 
 long-edits-good : (cell left : ℕ) → suc cell + left ≤ 65536
-    → good_edits limits 7 127 (This (edit_of 0 0 cell (pos 8192))) (long_edits (suc cell) left) ≡ true
+    → good_edits limits 7 127 (Some (edit_of 0 0 cell (pos 8192))) (long_edits (suc cell) left) ≡ true
 unfolding long_edits good_edits follows rises
 long-edits-good cell zero h = refl
 long-edits-good cell (suc left) h =
@@ -210,5 +209,5 @@ longest-good = record-from-facts limits longest
       edits = first;
     })
   where
-    first : good_edits limits 7 127 Nothing (long_edits 16384 512) ≡ true
+    first : good_edits limits 7 127 None (long_edits 16384 512) ≡ true
     first = unfold long_edits good_edits follows in and3-intro _ _ _ (long-edit-good 16384 (lit≤ tt)) refl (long-edits-good 16384 511 (lit≤ tt))

@@ -8,14 +8,13 @@ use native.Mathlib.Nat.{zero-add, suc-add, pow-le-pow_right}
 use native.Mathlib.Omega.{arith}
 use lib.Dec.{lit<}
 use lib.ListN.{length}
+use Rattle.std.specs.Prelude.{Option, None, Some}
 use Rattle.farm.specs.Limits.{Limits}
 use Rattle.farm.specs.Sets.{Seats}
 use Rattle.farm.specs.declared.places.Seat.{Seat}
 use Rattle.farm.proofs.Cases.{and-elim}
 use Rattle.record.specs.declared.header.Header.{Header}
 use Rattle.record.specs.declared.edits.Edit.{Edit}
-use Rattle.record.specs.declared.edits.Before.{Before}
-use Rattle.record.specs.declared.edits.Before.TheVariants.{Nothing, This}
 use Rattle.record.specs.Taking.{value, ◌>>=◌, when}
 use Rattle.record.specs.Numbers.{number_bytes, take_number, take_within}
 use Rattle.record.specs.Changes.{mapped}
@@ -129,7 +128,7 @@ module _ (L : Limits) (wide : Wide L) where
       ))
 
   -- Good edits are taken, and the edits after them come next.
-  pub edits-back : (n R k : ℕ) (before : Before) (edits : List Edit) (rest : List ℕ) → n ≤ L.most_seats → R ≤ L.most_rounds
+  pub edits-back : (n R k : ℕ) (before : Option Edit) (edits : List Edit) (rest : List ℕ) → n ≤ L.most_seats → R ≤ L.most_rounds
       → good_edits L n R before edits ≡ true
       → take_edits L n R (length edits + k) before (edits_bytes L edits ++ rest)
       ≡ joined edits (take_edits L n R k (last_of before edits) rest)
@@ -142,16 +141,16 @@ module _ (L : Limits) (wide : Wide L) where
         append_assoc,
         edit-back n R e (edits_bytes L edits ++ rest) few short x.0,
         x.1,
-        edits-back n R k (This e) edits rest few short x.2,
+        edits-back n R k (Some e) edits rest few short x.2,
       )
       (joined-bind (e ∷ []) _ ∙ joined-joined (e ∷ []) edits _)
 
   pub all-edits-back : (n R E : ℕ) (edits : List Edit) (rest : List ℕ) → n ≤ L.most_seats → R ≤ L.most_rounds → length edits ≡ E
-      → good_edits L n R Nothing edits ≡ true → take_edits L n R E Nothing (edits_bytes L edits ++ rest) ≡ value edits rest
+      → good_edits L n R None edits ≡ true → take_edits L n R E None (edits_bytes L edits ++ rest) ≡ value edits rest
   unfolding take_edits joined
   all-edits-back n R E edits rest few short count g =
       let none : E ≡ length edits + 0 = omega arith in
-      rw none (edits-back n R 0 Nothing edits rest few short g) ∙ ap (λ (l : List Edit). value l rest) (append-nil edits)
+      rw none (edits-back n R 0 None edits rest few short g) ∙ ap (λ (l : List Edit). value l rest) (append-nil edits)
 
   -- ════ The record ════
 

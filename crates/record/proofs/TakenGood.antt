@@ -5,6 +5,7 @@ use mathlib.Core.Bool.{true}
 use mathlib.Core.List.{List, [], ◌∷◌, ◌++◌}
 use Prim.Native.Nat.{ℕ, zero, suc, ◌-◌, ◌*◌}
 use lib.ListN.{length}
+use Rattle.std.specs.Prelude.{Option, None, Some}
 use Rattle.farm.specs.Limits.{Limits}
 use Rattle.farm.specs.Sets.{Seats}
 use Rattle.farm.specs.declared.places.Seat.{Seat}
@@ -12,8 +13,6 @@ use Rattle.farm.specs.declared.refusals.Refusal.TheVariants.{BadLossSet, BadOrde
 use Rattle.farm.proofs.Cases.{and_intro}
 use Rattle.record.specs.declared.header.Header.{Header}
 use Rattle.record.specs.declared.edits.Edit.{Edit}
-use Rattle.record.specs.declared.edits.Before.{Before}
-use Rattle.record.specs.declared.edits.Before.TheVariants.{Nothing, This}
 use Rattle.record.specs.Taking.{Taken, value, refused, when}
 use Rattle.record.specs.Numbers.{take_number, take_within}
 use Rattle.record.specs.Changes.{unmapped}
@@ -127,15 +126,15 @@ module _ (L : Limits) where
       let number = mapped-unmapped w.change in
       rw (← w.made) (edit-from-facts L n R _ (record { seat = s.2; time = t.2; cell = c.2; change = rw number d.2 }))
 
-  pub edits-taken : (n R left : ℕ) (before : Before) (bytes : List ℕ) (edits : List Edit) (rest : List ℕ)
+  pub edits-taken : (n R left : ℕ) (before : Option Edit) (bytes : List ℕ) (edits : List Edit) (rest : List ℕ)
       → take_edits L n R left before bytes ≡ value edits rest → (length edits ≡ left) × (good_edits L n R before edits ≡ true)
   unfolding take_edits good_edits
   edits-taken n R zero before bytes edits rest e = let none : [] ≡ edits = cc in rw (← none) (refl, refl)
   edits-taken n R (suc left) before bytes edits rest e =
       let x = bind-value (take_edit L n R bytes) _ edits rest e in
-      let y = bind-value (when (follows before x.0) BadOrder (take_edits L n R left (This x.0) x.1)) _ edits rest x.3 in
-      let z = when-value (follows before x.0) BadOrder (take_edits L n R left (This x.0) x.1) y.0 y.1 y.2 in
-      let later = edits-taken n R left (This x.0) x.1 y.0 y.1 z.1 in
+      let y = bind-value (when (follows before x.0) BadOrder (take_edits L n R left (Some x.0) x.1)) _ edits rest x.3 in
+      let z = when-value (follows before x.0) BadOrder (take_edits L n R left (Some x.0) x.1) y.0 y.1 y.2 in
+      let later = edits-taken n R left (Some x.0) x.1 y.0 y.1 z.1 in
       let all : x.0 ∷ y.0 ≡ edits = cc in
       rw (← all) (ap suc later.0, and3-intro _ _ _ (edit-taken n R bytes x.0 x.1 x.2) z.0 later.1)
 
@@ -146,17 +145,17 @@ module _ (L : Limits) where
   record-taken bytes r rest e =
       let x = bind-value (take_header L bytes) _ r rest e in
       let y = bind-value (take_rounds L x.0.seats x.0.rounds x.1) _ r rest x.3 in
-      let z = bind-value (take_edits L x.0.seats x.0.rounds x.0.edits Nothing y.1) _ r rest y.3 in
+      let z = bind-value (take_edits L x.0.seats x.0.rounds x.0.edits None y.1) _ r rest y.3 in
       by x.0 x.1 y.0 y.1 z.0 z.1 x.2 y.2 z.2 z.3
     where
       by : (header : Header) (a : List ℕ) (losses : List Seats) (b : List ℕ) (edits : List Edit) (c : List ℕ)
           → take_header L bytes ≡ value header a
           → take_rounds L header.seats header.rounds a ≡ value losses b
-          → take_edits L header.seats header.rounds header.edits Nothing b ≡ value edits c
+          → take_edits L header.seats header.rounds header.edits None b ≡ value edits c
           → value (record { header = header; losses = losses; edits = edits }) c ≡ value r rest → good_record L r ≡ true
       by header a losses b edits c p q s same =
           let S = rounds-taken header.seats header.rounds a losses b q in
-          let E = edits-taken header.seats header.rounds header.edits Nothing b edits c s in
+          let E = edits-taken header.seats header.rounds header.edits None b edits c s in
           let all : record { header = header; losses = losses; edits = edits } ≡ r = cc in
           rw (← all)
           (record-from-facts L _

@@ -8,12 +8,11 @@ use native.Mathlib.Omega.{arith}
 use lib.Dec.{leb}
 use lib.ListN.{length, take, drop}
 use borrow.Author.Tests.{eqb-true, eq-eqb, leb-true}
+use Rattle.std.specs.Prelude.{Option, None, Some}
 use Rattle.farm.specs.Limits.{Limits}
 use Rattle.farm.specs.declared.refusals.Refusal.{Refusal}
 use Rattle.farm.specs.declared.refusals.Refusal.TheVariants.{OutOfRange, BadLossSet, BadOrder, NoRoom, BadLengths}
 use Rattle.record.specs.declared.edits.Edit.{Edit}
-use Rattle.record.specs.declared.edits.Before.{Before}
-use Rattle.record.specs.declared.edits.Before.TheVariants.{Nothing, This}
 use Rattle.record.specs.Edits.{follows}
 use Rattle.record.specs.Record.{Record, Reading, good, bad, bytes_of}
 use Rattle.record.specs.Good.{good_edit, good_edits, good_record}
@@ -41,22 +40,22 @@ judged-good x (faulty f) r e = let z : ◌≡◌ {A = ℕ} 0 1 = cc in absurd (o
 
 -- ════ Edits ════
 
-pub edits-accepted : (L : Limits) (n R : ℕ) (before : Before) (edits : List Edit) → judged_edits L n R before edits ≡ accepted
+pub edits-accepted : (L : Limits) (n R : ℕ) (before : Option Edit) (edits : List Edit) → judged_edits L n R before edits ≡ accepted
     → good_edits L n R before edits ≡ true
 unfolding judged_edits good_edits
 edits-accepted L n R before [] e = refl
 edits-accepted L n R before (edit ∷ edits) e =
     let x = unless-accepted _ OutOfRange _ e in
     let y = unless-accepted _ BadOrder _ x.1 in
-    and3-intro _ _ _ x.0 y.0 (edits-accepted L n R (This edit) edits y.1)
+    and3-intro _ _ _ x.0 y.0 (edits-accepted L n R (Some edit) edits y.1)
 
-pub good-edits-accepted : (L : Limits) (n R : ℕ) (before : Before) (edits : List Edit) → good_edits L n R before edits ≡ true
+pub good-edits-accepted : (L : Limits) (n R : ℕ) (before : Option Edit) (edits : List Edit) → good_edits L n R before edits ≡ true
     → judged_edits L n R before edits ≡ accepted
 unfolding judged_edits good_edits unless
 good-edits-accepted L n R before [] g = refl
 good-edits-accepted L n R before (edit ∷ edits) g =
-    let x = and3-elim (good_edit L n R edit) (follows before edit) (good_edits L n R (This edit) edits) g in
-    rw (x.0, x.1) (good-edits-accepted L n R (This edit) edits x.2)
+    let x = and3-elim (good_edit L n R edit) (follows before edit) (good_edits L n R (Some edit) edits) g in
+    rw (x.0, x.1) (good-edits-accepted L n R (Some edit) edits x.2)
 
 -- ════ Lists ════
 
@@ -109,7 +108,7 @@ lists-accepted L n t R lists r e =
             loss_count = f.losses;
             losses = s.0;
             edit_count = c.count;
-            edits = edits-accepted L n R Nothing _ s.1;
+            edits = edits-accepted L n R None _ s.1;
           });
       header = refl;
       tables = λ i. record {
@@ -140,7 +139,7 @@ good-lists-accepted L r g =
       f.header,
       fits,
       f.losses,
-      good-edits-accepted L r.header.seats r.header.rounds Nothing r.edits f.edits,
+      good-edits-accepted L r.header.seats r.header.rounds None r.edits f.edits,
     )
 
 -- ════ The buffer ════

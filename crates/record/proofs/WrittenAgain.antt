@@ -7,14 +7,13 @@ use Prim.Native.Nat.{ℕ, zero, suc, ◌+◌, ◌-◌, ◌*◌, ◌^◌, ◌<◌
 use native.Mathlib.Omega.{arith}
 use lib.ListN.{length}
 use lib.Seq.{get_or-append-add}
+use Rattle.std.specs.Prelude.{Option, None, Some}
 use Rattle.farm.specs.Limits.{Limits}
 use Rattle.farm.specs.Sets.{Seats}
 use Rattle.farm.specs.declared.places.Seat.{Seat}
 use Rattle.farm.specs.declared.refusals.Refusal.TheVariants.{BadOrder}
 use Rattle.record.specs.declared.header.Header.{Header}
 use Rattle.record.specs.declared.edits.Edit.{Edit}
-use Rattle.record.specs.declared.edits.Before.{Before}
-use Rattle.record.specs.declared.edits.Before.TheVariants.{Nothing, This}
 use Rattle.record.specs.Taking.{IsBytes, value, when}
 use Rattle.record.specs.Numbers.{number_bytes, take_number, take_within}
 use Rattle.record.specs.Header.{take_header, header_bytes}
@@ -120,7 +119,7 @@ module _ (L : Limits) where
       again _ rest bytes (edit-taken L n R bytes edit rest e)
       (rw (← w.made) (simp append_assoc (rw (number, d.written, c.written, t.written, s.written)))) h
 
-  pub edits-again : (n R left : ℕ) (before : Before) (bytes : List ℕ) (edits : List Edit) (rest : List ℕ) → IsBytes bytes
+  pub edits-again : (n R left : ℕ) (before : Option Edit) (bytes : List ℕ) (edits : List Edit) (rest : List ℕ) → IsBytes bytes
       → take_edits L n R left before bytes ≡ value edits rest
       → Again ((length edits ≡ left) × (good_edits L n R before edits ≡ true)) (edits_bytes L edits) rest bytes
   unfolding take_edits good_edits edits_bytes
@@ -130,10 +129,10 @@ module _ (L : Limits) where
       rw (← none, ← ends) (again [] bytes bytes (refl, refl) refl h)
   edits-again n R (suc left) before bytes edits rest h e =
       let x = bind-value (take_edit L n R bytes) _ edits rest e in
-      let y = bind-value (when (follows before x.0) BadOrder (take_edits L n R left (This x.0) x.1)) _ edits rest x.3 in
-      let z = when-value (follows before x.0) BadOrder (take_edits L n R left (This x.0) x.1) y.0 y.1 y.2 in
+      let y = bind-value (when (follows before x.0) BadOrder (take_edits L n R left (Some x.0) x.1)) _ edits rest x.3 in
+      let z = when-value (follows before x.0) BadOrder (take_edits L n R left (Some x.0) x.1) y.0 y.1 y.2 in
       let s = edit-again n R bytes x.0 x.1 h x.2 in
-      let later = edits-again n R left (This x.0) x.1 y.0 y.1 s.after z.1 in
+      let later = edits-again n R left (Some x.0) x.1 y.0 y.1 s.after z.1 in
       again (edits_bytes L edits) rest bytes (edits-taken L n R (suc left) before bytes edits rest e)
       (by x.0 x.1 y.0 y.1 s.written later.written y.3) h
     where
@@ -152,19 +151,19 @@ module _ (L : Limits) where
   record-again bytes r rest h e =
       let x = bind-value (take_header L bytes) _ r rest e in
       let y = bind-value (take_rounds L x.0.seats x.0.rounds x.1) _ r rest x.3 in
-      let z = bind-value (take_edits L x.0.seats x.0.rounds x.0.edits Nothing y.1) _ r rest y.3 in
+      let z = bind-value (take_edits L x.0.seats x.0.rounds x.0.edits None y.1) _ r rest y.3 in
       by x.0 x.1 y.0 y.1 z.0 z.1 x.2 y.2 z.2 z.3
     where
       by : (header : Header) (a : List ℕ) (losses : List Seats) (b : List ℕ) (edits : List Edit) (c : List ℕ)
           → take_header L bytes ≡ value header a
           → take_rounds L header.seats header.rounds a ≡ value losses b
-          → take_edits L header.seats header.rounds header.edits Nothing b ≡ value edits c
+          → take_edits L header.seats header.rounds header.edits None b ≡ value edits c
           → value (record { header = header; losses = losses; edits = edits }) c ≡ value r rest
           → Again (good_record L r ≡ true) (bytes_of L r) rest bytes
       by header a losses b edits c p q s same =
           let H = header-again bytes header a h p in
           let S = rounds-again header.seats header.rounds a losses b H.after q in
-          let E = edits-again header.seats header.rounds header.edits Nothing b edits c S.after s in
+          let E = edits-again header.seats header.rounds header.edits None b edits c S.after s in
           let all : record { header = header; losses = losses; edits = edits } ≡ r = cc in
           let ends : c ≡ rest = cc in
           again _ rest bytes (record-taken L bytes r rest e)

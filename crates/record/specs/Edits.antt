@@ -1,10 +1,8 @@
 -- The edits: seat, time, cell, change, in strictly rising order of time, then seat, then cell.
-use Rattle.std.specs.Prelude.{Bool, true, ◌&&◌, ◌||◌, List, [], ◌∷◌, ◌++◌, ℕ, zero, suc, ◌-◌, eqb, ltb}
+use Rattle.std.specs.Prelude.{Bool, true, ◌&&◌, ◌||◌, List, [], ◌∷◌, ◌++◌, ℕ, zero, suc, ◌-◌, eqb, ltb, Option, None, Some}
 use Rattle.farm.specs.Limits.{Limits}
 use Rattle.farm.specs.declared.refusals.Refusal.TheVariants.{BadOrder}
 use Rattle.record.specs.declared.edits.Edit.{Edit}
-use Rattle.record.specs.declared.edits.Before.{Before}
-use Rattle.record.specs.declared.edits.Before.TheVariants.{Nothing, This}
 use Rattle.record.specs.Taking.{Taken, value, ◌>>=◌, when}
 use Rattle.record.specs.Numbers.{number_bytes, take_within}
 use Rattle.record.specs.Changes.{mapped, unmapped}
@@ -17,9 +15,9 @@ rises a b =
     || eqb a.time.0 b.time.0
     && (ltb a.seat.0 b.seat.0 || eqb a.seat.0 b.seat.0 && ltb a.cell b.cell)
 
-unfoldable pub follows : Before → Edit → Bool
-follows Nothing edit = true
-follows (This last) edit = rises last edit
+unfoldable pub follows : Option Edit → Edit → Bool
+follows None edit = true
+follows (Some last) edit = rises last edit
 
 -- ════ Reading ════
 
@@ -32,11 +30,11 @@ take_edit L n R bytes = do
   value (record { seat = record { 0 = seat }; time = record { 0 = time }; cell = cell; change = unmapped change }) end
 
 -- The order is tested when an edit is complete: refusal 5.
-unfoldable pub take_edits : Limits → (n rounds left : ℕ) → Before → List ℕ → Taken (List Edit)
+unfoldable pub take_edits : Limits → (n rounds left : ℕ) → Option Edit → List ℕ → Taken (List Edit)
 take_edits L n R zero before bytes = value [] bytes
 take_edits L n R (suc left) before bytes = do
   (edit, rest) ← take_edit L n R bytes
-  (edits, end) ← when (follows before edit) BadOrder (take_edits L n R left (This edit) rest)
+  (edits, end) ← when (follows before edit) BadOrder (take_edits L n R left (Some edit) rest)
   value (edit ∷ edits) end
 
 -- ════ Writing ════

@@ -1,7 +1,7 @@
 -- Why a byte string is refused, as document 01 orders it: from the front, the first number at fault decides; its form (1, 2) is
 -- looked at before its value (3, 4); an edit's order (5) once its four numbers are there; and what is left over (6) at the end. No
 -- reading is done here: a byte string is cut after what is good, and the number that comes next is looked at.
-use Rattle.std.specs.Prelude.{◌≡◌, Bool, true, false, ◌&&◌, List, [], ◌∷◌, ◌++◌, ℕ, ◌-◌, ◌*◌, ◌^◌, ◌<◌, leb, ltb, length}
+use Rattle.std.specs.Prelude.{◌≡◌, Bool, true, false, ◌&&◌, List, [], ◌∷◌, ◌++◌, ℕ, ◌-◌, ◌*◌, ◌^◌, ◌<◌, leb, ltb, length, Option, None, Some}
 use Rattle.farm.specs.Limits.{Limits}
 use Rattle.farm.specs.Sets.{Seats}
 use Rattle.farm.specs.declared.places.Seat.{Seat}
@@ -10,8 +10,6 @@ use Rattle.farm.specs.declared.refusals.Refusal.{Refusal}
 use Rattle.farm.specs.declared.refusals.Refusal.TheVariants.{EndsEarly, BadForm, OutOfRange, BadLossSet, BadOrder, BytesLeft}
 use Rattle.record.specs.declared.header.Header.{Header}
 use Rattle.record.specs.declared.edits.Edit.{Edit}
-use Rattle.record.specs.declared.edits.Before.{Before}
-use Rattle.record.specs.declared.edits.Before.TheVariants.{Nothing, This}
 use Rattle.record.specs.Numbers.{number_bytes}
 use Rattle.record.specs.Header.{header_bytes}
 use Rattle.record.specs.Losses.{first_seat, sender_of, good_set, loss_bytes}
@@ -92,7 +90,7 @@ good_so_far L p =
     good_header L p.header
     && good_rounds p.header.seats p.header.rounds p.losses
     && ltb (length p.edits) p.header.edits
-    && good_edits L p.header.seats p.header.rounds Nothing p.edits
+    && good_edits L p.header.seats p.header.rounds None p.edits
 
 -- Everything that was read is good, and the number is to come.
 unfoldable pub good_up_to : Limits → Spot → Bool
@@ -108,9 +106,9 @@ good_up_to L (at_change p seat time cell) =
     good_so_far L p && fits L (at_seat p) seat.0 && fits L (at_time p seat) time.0 && fits L (at_cell p seat time) cell
 
 -- The edit that the next one has to come after.
-unfoldable pub last_of : Before → List Edit → Before
+unfoldable pub last_of : Option Edit → List Edit → Option Edit
 last_of before [] = before
-last_of before (e ∷ edits) = last_of (This e) edits
+last_of before (e ∷ edits) = last_of (Some e) edits
 
 -- ════ The four reasons ════
 
@@ -123,6 +121,6 @@ pub data Fault (L : Limits) (bytes : List ℕ) : Refusal → Type 0 where
       → v < 128 ^ L.longest_number → fits L spot v ≡ false → Fault L bytes (refusal_at spot)
   -- 5: the next edit is complete and its four numbers fit, and it is not after the one before.
   bad_order : (p : Record) (e : Edit) (rest : List ℕ) → good_so_far L p ≡ true → bytes_of L p ++ edit_bytes L e ++ rest ≡ bytes
-      → good_edit L p.header.seats p.header.rounds e ≡ true → follows (last_of Nothing p.edits) e ≡ false → Fault L bytes BadOrder
+      → good_edit L p.header.seats p.header.rounds e ≡ true → follows (last_of None p.edits) e ≡ false → Fault L bytes BadOrder
   -- 6: after a whole good record there is another byte.
   bytes_left : (r : Record) (b : ℕ) (rest : List ℕ) → good_record L r ≡ true → bytes_of L r ++ (b ∷ rest) ≡ bytes → Fault L bytes BytesLeft

@@ -1,13 +1,11 @@
 -- What a good record is as data, with no bytes in it: every number in its range, the lists as long as the header says, and the
 -- edits rising. Loss sets and edits are each tested from the front of one flat list, as a loop over it does.
-use Rattle.std.specs.Prelude.{◌≡◌, ◌⊎◌, Bool, true, cond, ◌&&◌, List, [], ◌∷◌, ℕ, suc, ◌-◌, ◌*◌, ◌<◌, eqb, leb, length}
+use Rattle.std.specs.Prelude.{◌≡◌, ◌⊎◌, Bool, true, cond, ◌&&◌, List, [], ◌∷◌, ℕ, suc, ◌-◌, ◌*◌, ◌<◌, eqb, leb, length, Option, None, Some}
 use Rattle.farm.specs.Limits.{Limits}
 use Rattle.farm.specs.Sets.{Seats}
 use Rattle.farm.specs.declared.places.Seat.{Seat}
 use Rattle.record.specs.declared.header.Header.{Header}
 use Rattle.record.specs.declared.edits.Edit.{Edit}
-use Rattle.record.specs.declared.edits.Before.{Before}
-use Rattle.record.specs.declared.edits.Before.TheVariants.{Nothing, This}
 use Rattle.record.specs.Changes.{mapped}
 use Rattle.record.specs.Losses.{first_seat, seat_after, good_set}
 use Rattle.record.specs.Edits.{follows}
@@ -55,9 +53,9 @@ good_edit L n R e =
     && within 0 L.largest_cell e.cell
     && within 0 L.largest_mapped_change (mapped e.change)
 
-unfoldable pub good_edits : Limits → (n rounds : ℕ) → Before → List Edit → Bool
+unfoldable pub good_edits : Limits → (n rounds : ℕ) → Option Edit → List Edit → Bool
 good_edits L n R before [] = true
-good_edits L n R before (e ∷ edits) = good_edit L n R e && follows before e && good_edits L n R (This e) edits
+good_edits L n R before (e ∷ edits) = good_edit L n R e && follows before e && good_edits L n R (Some e) edits
 
 -- ════ The record ════
 
@@ -67,4 +65,4 @@ good_record L r =
     good_header L r.header
     && good_rounds r.header.seats r.header.rounds r.losses
     && eqb (length r.edits) r.header.edits
-    && good_edits L r.header.seats r.header.rounds Nothing r.edits
+    && good_edits L r.header.seats r.header.rounds None r.edits

@@ -16,5 +16,6 @@ pub mod Lengths
 pub mod Faults
 pub mod ListFaults
 pub mod Answers
+pub mod Lent
 pub mod Longest
 pub mod Promises

@@ -1,12 +1,11 @@
 -- A record, what reading a byte string gives, and what a record's bytes are.
-use Rattle.std.specs.Prelude.{List, [], ◌∷◌, ◌++◌, ℕ}
+use Rattle.std.specs.Prelude.{List, [], ◌∷◌, ◌++◌, ℕ, None}
 use Rattle.farm.specs.Limits.{Limits}
 use Rattle.farm.specs.Sets.{Seats}
 use Rattle.farm.specs.declared.refusals.Refusal.{Refusal}
 use Rattle.farm.specs.declared.refusals.Refusal.TheVariants.{BytesLeft}
 use Rattle.record.specs.declared.header.Header.{Header}
 use Rattle.record.specs.declared.edits.Edit.{Edit}
-use Rattle.record.specs.declared.edits.Before.TheVariants.{Nothing}
 use Rattle.record.specs.Taking.{Taken, value, refused, ◌>>=◌}
 use Rattle.record.specs.Header.{take_header, header_bytes}
 use Rattle.record.specs.Losses.{take_rounds, loss_bytes}
@@ -26,7 +25,7 @@ unfoldable pub take_record : Limits → List ℕ → Taken Record
 take_record L bytes = do
   (header, after-header) ← take_header L bytes
   (losses, after-losses) ← take_rounds L header.seats header.rounds after-header
-  (edits, end) ← take_edits L header.seats header.rounds header.edits Nothing after-losses
+  (edits, end) ← take_edits L header.seats header.rounds header.edits None after-losses
   value (record { header = header; losses = losses; edits = edits }) end
 
 -- Refusal 6 comes last: bytes left after the last edit.

@@ -1,14 +1,12 @@
 -- What writing from lists means. Document 01's order: 3 for n, t, R and E, then 10 for the lengths, then 4 for all loss sets,
 -- then edit by edit 3 and 5, and 7 last. E is the length of the list of seats.
-use Rattle.std.specs.Prelude.{Bool, true, false, cond, ◌&&◌, List, [], ◌∷◌, ℕ, ◌*◌, eqb, leb, ℤ, length}
+use Rattle.std.specs.Prelude.{Bool, true, false, cond, ◌&&◌, List, [], ◌∷◌, ℕ, ◌*◌, eqb, leb, ℤ, length, Option, None, Some}
 use Rattle.farm.specs.Limits.{Limits}
 use Rattle.farm.specs.Sets.{Seats}
 use Rattle.farm.specs.declared.refusals.Refusal.{Refusal}
 use Rattle.farm.specs.declared.refusals.Refusal.TheVariants.{OutOfRange, BadLossSet, BadOrder, NoRoom, BadLengths}
 use Rattle.record.specs.declared.header.Header.{Header}
 use Rattle.record.specs.declared.edits.Edit.{Edit}
-use Rattle.record.specs.declared.edits.Before.{Before}
-use Rattle.record.specs.declared.edits.Before.TheVariants.{Nothing, This}
 use Rattle.record.specs.Losses.{first_seat}
 use Rattle.record.specs.Edits.{follows}
 use Rattle.record.specs.Record.{Record, Reading, good, bad, bytes_of}
@@ -30,10 +28,10 @@ unfoldable pub unless : Bool → Refusal → Verdict → Verdict
 unless true r later = later
 unless false r later = faulty r
 
-unfoldable pub judged_edits : Limits → (n rounds : ℕ) → Before → List Edit → Verdict
+unfoldable pub judged_edits : Limits → (n rounds : ℕ) → Option Edit → List Edit → Verdict
 judged_edits L n R before [] = accepted
 judged_edits L n R before (e ∷ edits) =
-    unless (good_edit L n R e) OutOfRange (unless (follows before e) BadOrder (judged_edits L n R (This e) edits))
+    unless (good_edit L n R e) OutOfRange (unless (follows before e) BadOrder (judged_edits L n R (Some e) edits))
 
 abbrev pub header_from : (n t R : ℕ) → Tables → Header
 header_from n t R lists = record { seats = n; bound = t; rounds = R; edits = length lists.seats }
@@ -52,7 +50,7 @@ fitting n R lists =
 unfoldable pub judged_lists : Limits → (n t R : ℕ) → Tables → Verdict
 judged_lists L n t R lists =
     unless (good_header L (header_from n t R lists)) OutOfRange
-    (unless (fitting n R lists) BadLengths (unless (good_sets n first_seat lists.losses) BadLossSet (judged_edits L n R Nothing (edits_in lists))))
+    (unless (fitting n R lists) BadLengths (unless (good_sets n first_seat lists.losses) BadLossSet (judged_edits L n R None (edits_in lists))))
 
 unfoldable pub record_from : (n t R : ℕ) → Tables → Record
 record_from n t R lists = record { header = header_from n t R lists; losses = lists.losses; edits = edits_in lists }

@@ -12,35 +12,21 @@ pub struct Edit {
     pub change: i16,
 }
 
-// The edit that the next one has to come after, or none before the first.
-#[derive(Clone, Copy)]
-pub enum Before {
-    Nothing,
-    This(Edit),
-}
-
 // Whether an edit comes before another: by time, then seat, then cell.
+#[tactic(auto, unfolding(crate::specs::Edits::rises))]
 pub fn rises_to(a: Edit, b: Edit) -> bool
     ensures { result ≡ rises a b }
 {
-    let earlier = a.time.0;
-    let later = b.time.0;
-    if earlier != later {
-        return earlier < later;
-    }
-    let lower = a.seat.0;
-    let higher = b.seat.0;
-    if lower != higher {
-        return lower < higher;
-    }
-    a.cell < b.cell
+    (a.time, a.seat, a.cell) < (b.time, b.seat, b.cell)
 }
 
-pub fn comes_after(before: Before, edit: Edit) -> bool
+// Whether an edit may stand behind the one before it; the first has none before it.
+#[tactic(auto, unfolding(crate::specs::Edits::follows))]
+pub fn comes_after(before: Option<Edit>, edit: Edit) -> bool
     ensures { result ≡ follows before edit }
 {
     match before {
-        Before::Nothing => true,
-        Before::This(last) => rises_to(last, edit),
+        None => true,
+        Some(last) => rises_to(last, edit),
     }
 }

@@ -5,18 +5,16 @@ use mathlib.Core.Logic.{◌⊎◌, inl, inr, ◌≢◌}
 use mathlib.Core.Bool.{Bool, cond, not}
 use mathlib.Core.List.{List, []}
 use Prim.Native.Nat.{ℕ, zero, suc, ◌+◌, ◌*◌, ◌/◌, ◌%◌, ◌^◌, ◌≤◌, ◌<◌, max}
-use native.Mathlib.Nat.{div-one, div-div-eq-div-mul}
-use lib.Pow.{pow-add}
 use native.Mathlib.Numerals.{add-one}
 use native.Mathlib.Omega.{arith}
-use lib.Dec.{eqb, ltb}
+use lib.Dec.{ltb}
 use lib.IntN.{pos}
 use lib.ListN.{length, get_or, set, replicate}
 use borrow.Author.Tests.{eq-eqb, ne_eqb}
 use Rattle.farm.specs.Sets.{Seats, bit, collect}
 use Rattle.farm.proofs.Cases.{less-or-not}
 use Rattle.farm.proofs.SetLaws.{bit-collect}
-use Rattle.knowledge.specs.Farm.{Farm, Place, lost_in, farm_of}
+use Rattle.knowledge.specs.Farm.{Farm, Place, farm_of}
 use Rattle.knowledge.specs.Settled.{has_place}
 use Rattle.knowledge.specs.Views.{View, up_to, joined, view, views_of}
 use Rattle.viewing.specs.Counts.{room, below, counts, held, view_in, arrives, arrivals, count_at, counts_to, views_to, all_counts, first_counts}
@@ -34,25 +32,18 @@ pub joined-more : (p : ℕ) (test : ℕ → Bool) (views : ℕ → View) (q : �
 unfolding joined
 joined-more p test views q = rw (add-one, joined) refl
 
--- The rest of a set from seat p on.
-pub rest-none : (set : Seats) → set ≡ set / 2 ^ 0
-rest-none set = sym (div-one set)
-
-pub rest_more : (set rest p : ℕ) → rest ≡ set / 2 ^ p → rest / 2 ≡ set / 2 ^ (p + 1)
-rest_more set rest p e = rw (e, pow-add 2 p 1) (div-div-eq-div-mul set (2 ^ p) 2)
-
--- A turn at seat p: the count of the seats below p, the rest of the set from p on, and p's own count.
-pub joined-turn : (p : ℕ) (set rest : Seats) (table : List ℕ) (q count result : ℕ) → count ≡ joined p (bit set) (view_in table) q
-    → rest ≡ set / 2 ^ p → result ≡ max count (cond (eqb (rest % 2) 1) (get_or table (p * room + q) 0) 0)
+-- A turn at seat p: the count of the seats below p, whether the set has p, and p's own count.
+pub joined-turn : (p : ℕ) (set : Seats) (table : List ℕ) (q count : ℕ) (member : Bool) (result : ℕ) → count ≡ joined p (bit set) (view_in table) q
+    → member ≡ bit set p → result ≡ max count (cond member (get_or table (p * room + q) 0) 0)
     → result ≡ joined (p + 1) (bit set) (view_in table) q
-unfolding view_in bit
-joined-turn p set rest table q count result before e r = r ∙ (rw (before, e) (joined-more p (bit set) (view_in table) q))
+unfolding view_in
+joined-turn p set table q count member result before e r = r ∙ (rw (before, e) (joined-more p (bit set) (view_in table) q))
 
 -- ════ Whom a seat heard ════
 
-pub heard-turn : (n : ℕ) (table : List Seats) (r p s : ℕ) (set : Seats) (lost : Bool) (result : Seats) → set ≡ collect s (arrives n table r p)
-    → lost ≡ lost_in n table r s p → result ≡ set + cond (not lost) (2 ^ s) 0 → result ≡ collect (s + 1) (arrives n table r p)
-heard-turn n table r p s set lost result e f h = collect-turn s (arrives n table r p) set (not lost) result e (ap not f) h
+pub heard-turn : (farm : Farm) (r p s : ℕ) (set : Seats) (lost : Bool) (result : Seats) → set ≡ collect s (arrives farm r p)
+    → lost ≡ farm.lost r s p → result ≡ set + cond (not lost) (2 ^ s) 0 → result ≡ collect (s + 1) (arrives farm r p)
+heard-turn farm r p s set lost result e f h = collect-turn s (arrives farm r p) set (not lost) result e (ap not f) h
 
 -- ════ The count at the next time ════
 
@@ -118,29 +109,26 @@ joined-equal (suc n) f g u v q e h =
     (ap₂ (λ (b : Bool) (x : ℕ). cond b x 0) (e n (omega arith)) (h n (omega arith)))
 
 -- The count that `next_count` finds is the one of rule 1.
-pub next-is-view : (n t R : ℕ) (table : List Seats) (k p q : ℕ) → n ≤ room → p < n → q < n
-    → max (max (up_to p (suc k) q) (view_in (all_counts (farm_of n t R table) k) p q))
-    (joined n (bit (arrivals n table (suc k) p)) (view_in (all_counts (farm_of n t R table) k)) q)
-    ≡ view (farm_of n t R table) p (suc k) q
+pub next-is-view : (farm : Farm) (k p q : ℕ) → farm.seats ≤ room → p < farm.seats → q < farm.seats
+    → max (max (up_to p (suc k) q) (view_in (all_counts farm k) p q))
+    (joined farm.seats (bit (arrivals farm (suc k) p)) (view_in (all_counts farm k)) q)
+    ≡ view farm p (suc k) q
 unfolding view arrivals
-next-is-view n t R table k p q small hp hq =
-    ap₂ (λ (x y : ℕ). max (max (up_to p (suc k) q) x) y) (view-in-all (farm_of n t R table) k p q small hp hq)
-    (joined-equal n (bit (arrivals n table (suc k) p)) (arrives n table (suc k) p)
-    (view_in (all_counts (farm_of n t R table) k)) (λ s. view (farm_of n t R table) s k) q
-    (λ s l. bit-collect n (arrives n table (suc k) p) s l)
-    (λ s l. view-in-all (farm_of n t R table) k s q small l hq))
+next-is-view farm k p q small hp hq =
+    ap₂ (λ (x y : ℕ). max (max (up_to p (suc k) q) x) y) (view-in-all farm k p q small hp hq)
+    (joined-equal farm.seats (bit (arrivals farm (suc k) p)) (arrives farm (suc k) p) (view_in (all_counts farm k)) (λ s. view farm s k) q
+    (λ s l. bit-collect farm.seats (arrives farm (suc k) p) s l) (λ s l. view-in-all farm k s q small l hq))
 
-pub fill-turn : (n t R : ℕ) (table : List Seats) (k p q : ℕ) (before next : List ℕ) (from x : ℕ) → n ≤ room → p < n → q < n
-    → before ≡ all_counts (farm_of n t R table) k → from ≡ arrivals n table (suc k) p
-    → next ≡ counts_to (farm_of n t R table) (suc k) (p * room + q)
-    → x ≡ max (max (up_to p (suc k) q) (view_in before p q)) (joined n (bit from) (view_in before) q)
-    → set next (p * room + q) x ≡ counts_to (farm_of n t R table) (suc k) (p * room + (q + 1))
+pub fill-turn : (farm : Farm) (k p q : ℕ) (before next : List ℕ) (from x : ℕ) → farm.seats ≤ room → p < farm.seats → q < farm.seats
+    → before ≡ all_counts farm k → from ≡ arrivals farm (suc k) p → next ≡ counts_to farm (suc k) (p * room + q)
+    → x ≡ max (max (up_to p (suc k) q) (view_in before p q)) (joined farm.seats (bit from) (view_in before) q)
+    → set next (p * room + q) x ≡ counts_to farm (suc k) (p * room + (q + 1))
 unfolding counts_to
-fill-turn n t R table k p q before next from x small hp hq eb ef en ex =
+fill-turn farm k p q before next from x small hp hq eb ef en ex =
     let one_more : p * room + (q + 1) ≡ suc (p * room + q) = omega arith in
     rw (en, one_more)
-    (filled_more (room * room) (p * room + q) (count_at (farm_of n t R table) (suc k)) x (omega arith)
-    ((rw (eb, ef) at ex) ∙ next-is-view n t R table k p q small hp hq ∙ sym (count-at-seat (farm_of n t R table) (suc k) p q small hq)))
+    (filled_more (room * room) (p * room + q) (count_at farm (suc k)) x (omega arith)
+    ((rw (eb, ef) at ex) ∙ next-is-view farm k p q small hp hq ∙ sym (count-at-seat farm (suc k) p q small hq)))
 
 pub fill_end : (farm : Farm) (k p : ℕ) → farm.seats ≤ room → counts_to farm k (p * room + farm.seats) ≡ views_to farm k (suc p)
 unfolding counts_to
@@ -184,9 +172,10 @@ first-turn n p first small h e =
     after j low high = first-zero n p j (omega arith) (omega arith) (λ same. let no : ⊥ = omega arith in absurd no)
 
 -- The same for every table of losses.
-pub first-of-any : (n t R : ℕ) (table : List Seats) → first_counts n ≡ all_counts (farm_of n t R table) 0
+pub first-of-any : (farm : Farm) → first_counts farm.seats ≡ all_counts farm 0
 unfolding first_counts counts_to count_at below view
-first-of-any n t R table = filled-equal (room * room) (n * room) (n * room) (count_at (farm_of n 0 0 []) 0) (count_at (farm_of n t R table) 0) (λ j h. refl)
+first-of-any farm =
+    filled-equal (room * room) (farm.seats * room) (farm.seats * room) (count_at (farm_of farm.seats 0 0 []) 0) (count_at farm 0) (λ j h. refl)
 
 -- ════ Views out of the table ════
 

@@ -5,8 +5,9 @@ use Rattle.farm.specs.Limits.{limits}
 use Rattle.farm.specs.Sets.{Seats, bit, collect}
 use Rattle.farm.specs.declared.places.Seat.{Seat}
 use Rattle.farm.specs.declared.places.Time.{Time}
+use Rattle.viewing.specs.declared.farms.Farm as code
 use Rattle.viewing.specs.declared.sizes.Sizes.{Sizes}
-use Rattle.knowledge.specs.Farm.{Farm, lost_in, farm_of}
+use Rattle.knowledge.specs.Farm.{Farm, farm_of}
 use Rattle.knowledge.specs.Views.{View, up_to, joined, view}
 
 -- The first m values of a function, as a list.
@@ -57,15 +58,18 @@ unfoldable pub held : List ℕ → View
 held list q = get_or list q 0
 
 -- Whether the send of s to p was not lost in round r, and the senders of whom that holds.
-abbrev pub arrives : (n : ℕ) → List Seats → (r p s : ℕ) → Bool
-arrives n table r p s = not (lost_in n table r s p)
+abbrev pub arrives : Farm → (r p s : ℕ) → Bool
+arrives farm r p s = not (farm.lost r s p)
 
-unfoldable pub arrivals : (n : ℕ) → List Seats → (r p : ℕ) → Seats
-arrivals n table r p = collect n (arrives n table r p)
+unfoldable pub arrivals : Farm → (r p : ℕ) → Seats
+arrivals farm r p = collect farm.seats (arrives farm r p)
 
 -- The farm that the numbers n, t, R and a table of loss sets describe.
 abbrev pub farm_for : Sizes → List Seats → Farm
 farm_for sizes table = farm_of sizes.seats sizes.bound sizes.rounds table
+
+abbrev pub farm_in : code.Farm → Farm
+farm_in farm = farm_for farm.sizes farm.losses.now
 
 -- ════ The same of seats and times, as contracts name them ════
 
@@ -74,11 +78,11 @@ abbrev pub count_of : View → Seat → ℕ
 count_of v q = v q.0
 
 -- Whether a send was lost in the round that ends at the time, and the seats whose send to one seat was not.
-abbrev pub is_lost : (n : ℕ) → List Seats → Time → (sender receiver : Seat) → Bool
-is_lost n table r sender receiver = lost_in n table r.0 sender.0 receiver.0
+abbrev pub is_lost : Farm → Time → (sender receiver : Seat) → Bool
+is_lost farm r sender receiver = farm.lost r.0 sender.0 receiver.0
 
-abbrev pub heard_by : (n : ℕ) → List Seats → Time → Seat → Seats
-heard_by n table r p = arrivals n table r.0 p.0
+abbrev pub heard_by : Farm → Time → Seat → Seats
+heard_by farm r p = arrivals farm r.0 p.0
 
 -- The view that has one place and the times before it, one seat's view in a table, and the joined views of a set of seats in it.
 abbrev pub own_view : Seat → Time → View

@@ -3,8 +3,9 @@
 // that no function here asks for a table of a certain length.
 ghost use Rattle.std.specs.Prelude.{◌≡◌, get_or};
 ghost use Rattle.knowledge.specs.Farm.{after};
-ghost use Rattle.viewing.specs.Counts.{is_lost};
+ghost use Rattle.viewing.specs.Counts.{farm_in, is_lost};
 
+use crate::farms::Farm;
 use farm::places::{Seat, Time};
 use farm::sets::holds;
 
@@ -16,9 +17,9 @@ fn loss_set(losses: &[u16], at: usize) -> u16
 }
 
 // Whether a send was lost in the round that begins at the time.
-pub fn was_lost(losses: &[u16], seats: u8, begun: Time, sender: Seat, receiver: Seat) -> bool
-    ensures { result ≡ is_lost seats losses.now (after begun) sender receiver }
+pub fn was_lost(farm: Farm, begun: Time, sender: Seat, receiver: Seat) -> bool
+    ensures { result ≡ is_lost (farm_in farm.entry) (after begun) sender receiver }
 {
-    let at = (begun.0 as usize) * (seats as usize) + (sender.0 as usize);
-    holds(loss_set(losses, at), receiver)
+    let at = (begun.0 as usize) * (farm.sizes.seats as usize) + (sender.0 as usize);
+    holds(loss_set(farm.losses, at), receiver)
 }

@@ -5,13 +5,14 @@ ghost use Rattle.std.specs.Prelude.{◌≡◌, cond, max, ◌≤◌, ◌<◌, po
 ghost use Rattle.farm.specs.Limits.{limits};
 ghost use Rattle.knowledge.specs.Farm.{after};
 ghost use Rattle.knowledge.specs.Views.{view_of, views_of};
-ghost use Rattle.viewing.specs.Counts.{counts, first_counts, farm_for, count_of, heard_by, own_view, seat_view, joined_view, all_views, views_below, views_with};
+ghost use Rattle.viewing.specs.Counts.{counts, first_counts, farm_in, count_of, heard_by, own_view, seat_view, joined_view, all_views, views_below, views_with};
 
+use crate::farms::Farm;
 use crate::losses::was_lost;
 use crate::sets::with_seat;
-use crate::sizes::Sizes;
 use farm::limits::MOST_SEATS;
 use farm::places::{Seat, Time};
+use farm::sets::holds;
 
 // Room for one view, and for the views of all seats.
 pub const ROOM: usize = MOST_SEATS as usize;
@@ -24,7 +25,8 @@ pub struct Counts {
     pub of: [u16; ROOM],
 }
 
-// The views of all seats at one time: seat p's count of seat q stands at p * ROOM + q.
+// The views of all seats at one time: seat p's count of seat q stands at p * ROOM + q. The table is flat, so that
+// a place in it is computed, and the contracts show that it is the right one.
 #[derive(Clone, Copy)]
 pub struct Views {
     pub of: [u16; TABLE],
@@ -34,10 +36,7 @@ pub struct Views {
 fn larger(count: u16, joins: bool, other: u16) -> u16
     ensures { result ≡ max count (cond joins other 0) }
 {
-    if !joins {
-        return count;
-    }
-    if count < other { other } else { count }
+    if joins { count.max(other) } else { count }
 }
 
 // The count of one seat in the joined views of a set of seats.
@@ -46,23 +45,21 @@ fn joined_count(views: &[u16; TABLE], seats: u8, set: u16, of: Seat) -> u16
     ensures { result ≡ count_of (joined_view seats set views.now) of }
 {
     let mut count: u16 = 0;
-    let mut rest = set;
     for p in 0..seats {
         let at = (p as usize) * ROOM + (of.0 as usize);
-        count = larger(count, rest % 2 == 1, views[at]);
-        rest = rest / 2;
+        count = larger(count, holds(set, Seat(p)), views[at]);
     }
     count
 }
 
 // The seats whose send to this one was not lost in the round that begins at the time.
-fn heard(losses: &[u16], seats: u8, begun: Time, by: Seat) -> u16
-    requires { seats ≤ limits.most_seats }
-    ensures { result ≡ heard_by seats losses.now (after begun) by }
+fn heard(farm: Farm, begun: Time, by: Seat) -> u16
+    requires { farm.sizes.seats ≤ limits.most_seats }
+    ensures { result ≡ heard_by (farm_in farm.entry) (after begun) by }
 {
     let mut set: u16 = 0;
-    for s in 0..seats {
-        set = with_seat(set, Seat(s), !was_lost(losses, seats, begun, Seat(s), by));
+    for s in 0..farm.sizes.seats {
+        set = with_seat(set, Seat(s), !was_lost(farm, begun, Seat(s), by));
     }
     set
 }
@@ -77,50 +74,41 @@ fn own_count(time: Time, p: Seat, q: Seat) -> u16
 
 // What p has seen of q when the round that begins at the time is over: p's own place, what p had
 // seen before, and what those had seen whom p heard.
-fn next_count(before: &[u16; TABLE], sizes: Sizes, from: u16, begun: Time, p: Seat, q: Seat) -> u16
-    requires { (sizes.seats ≤ limits.most_seats) × (begun.0 < limits.most_rounds) × (p.0 < limits.most_seats) × (q.0 < limits.most_seats) }
+fn next_count(before: &[u16; TABLE], seats: u8, from: u16, begun: Time, p: Seat, q: Seat) -> u16
+    requires { (seats ≤ limits.most_seats) × (begun.0 < limits.most_rounds) × (p.0 < limits.most_seats) × (q.0 < limits.most_seats) }
     ensures { result ≡ max (max (count_of (own_view p (after begun)) q) (count_of (seat_view before.now p) q))
-        (count_of (joined_view sizes.seats from before.now) q) }
+        (count_of (joined_view seats from before.now) q) }
 {
     let own = own_count(Time(begun.0 + 1), p, q);
     let at = (p.0 as usize) * ROOM + (q.0 as usize);
     let kept = larger(own, true, before[at]);
-    larger(kept, true, joined_count(before, sizes.seats, from, q))
+    larger(kept, true, joined_count(before, seats, from, q))
 }
 
 // Writes p's view after the round that begins at the time into the table of the next views, which
 // has those of the seats below p.
-fn fill_view(
-    next: &mut [u16; TABLE],
-    losses: &[u16],
-    sizes: Sizes,
-    before: &[u16; TABLE],
-    begun: Time,
-    p: Seat,
-)
-    requires seats_le_most_seats { (sizes.seats ≤ limits.most_seats) × (begun.0 < limits.most_rounds) × (p.0 < sizes.seats) }
-    requires before_value { before.now ≡ all_views (farm_for sizes losses.now) begun }
-    requires next_value { next.old ≡ views_below (farm_for sizes losses.now) (after begun) p }
-    ensures { next.new ≡ views_with (farm_for sizes losses.now) (after begun) p }
+fn fill_view(next: &mut [u16; TABLE], farm: Farm, before: &[u16; TABLE], begun: Time, p: Seat)
+    requires seats_le_most_seats { (farm.sizes.seats ≤ limits.most_seats) × (begun.0 < limits.most_rounds) × (p.0 < farm.sizes.seats) }
+    requires before_value { before.now ≡ all_views (farm_in farm) begun }
+    requires next_value { next.old ≡ views_below (farm_in farm) (after begun) p }
+    ensures { next.new ≡ views_with (farm_in farm.entry) (after begun) p }
 {
-    let seats = sizes.seats;
-    let from = heard(losses, seats, begun, p);
-    for q in 0..seats {
+    let from = heard(farm, begun, p);
+    for q in 0..farm.sizes.seats {
         let at = (p.0 as usize) * ROOM + (q as usize);
-        next[at] = next_count(before, sizes, from, begun, p, Seat(q));
+        next[at] = next_count(before, farm.sizes.seats, from, begun, p, Seat(q));
     }
 }
 
 // The views of all seats when the round that begins at the time is over.
-fn next_views(losses: &[u16], sizes: Sizes, before: Views, begun: Time) -> Views
-    requires seats_le_most_seats { (sizes.seats ≤ limits.most_seats) × (begun.0 < limits.most_rounds) }
-    requires of_value { before.of ≡ all_views (farm_for sizes losses.now) begun }
-    ensures { result.of ≡ all_views (farm_for sizes losses.now) (after begun) }
+fn next_views(farm: Farm, before: Views, begun: Time) -> Views
+    requires seats_le_most_seats { (farm.sizes.seats ≤ limits.most_seats) × (begun.0 < limits.most_rounds) }
+    requires of_value { before.of ≡ all_views (farm_in farm) begun }
+    ensures { result.of ≡ all_views (farm_in farm.entry) (after begun) }
 {
     let mut next: [u16; TABLE] = [0; TABLE];
-    let seats = sizes.seats;
-    for p in 0..seats {
-        fill_view(&mut next, losses, sizes, &before.of, begun, Seat(p));
+    for p in 0..farm.sizes.seats {
+        fill_view(&mut next, farm, &before.of, begun, Seat(p));
     }
     Views { of: next }
 }
@@ -139,13 +127,13 @@ fn first_views(seats: u8) -> Views
 }
 
 // The views of all seats at a time.
-pub fn views_at(losses: &[u16], sizes: Sizes, time: Time) -> Views
-    requires { (sizes.seats ≤ limits.most_seats) × (time.0 ≤ limits.most_rounds) }
-    ensures { result.of ≡ all_views (farm_for sizes losses.now) time }
+pub fn views_at(farm: Farm, time: Time) -> Views
+    requires { (farm.sizes.seats ≤ limits.most_seats) × (time.0 ≤ limits.most_rounds) }
+    ensures { result.of ≡ all_views (farm_in farm.entry) time }
 {
-    let mut views = first_views(sizes.seats);
+    let mut views = first_views(farm.sizes.seats);
     for k in 0..time.0 {
-        views = next_views(losses, sizes, views, Time(k));
+        views = next_views(farm, views, Time(k));
     }
     views
 }
@@ -176,19 +164,19 @@ fn joined_view(views: &[u16; TABLE], seats: u8, set: u16) -> Counts
 }
 
 // The view of a place.
-pub fn view_of(losses: &[u16], sizes: Sizes, seat: Seat, time: Time) -> Counts
-    requires { (sizes.seats ≤ limits.most_seats) × (seat.0 < sizes.seats) × (time.0 ≤ limits.most_rounds) }
-    ensures { result.of ≡ counts sizes.seats (view_of (farm_for sizes losses.now) seat time) }
+pub fn view_of(farm: Farm, seat: Seat, time: Time) -> Counts
+    requires { (farm.sizes.seats ≤ limits.most_seats) × (seat.0 < farm.sizes.seats) × (time.0 ≤ limits.most_rounds) }
+    ensures { result.of ≡ counts farm.entry.sizes.seats (view_of (farm_in farm.entry) seat time) }
 {
-    let views = views_at(losses, sizes, time);
-    seat_view(&views.of, sizes.seats, seat)
+    let views = views_at(farm, time);
+    seat_view(&views.of, farm.sizes.seats, seat)
 }
 
 // The view of a set of seats at a time.
-pub fn view_of_set(losses: &[u16], sizes: Sizes, set: u16, time: Time) -> Counts
-    requires { (sizes.seats ≤ limits.most_seats) × (time.0 ≤ limits.most_rounds) }
-    ensures { result.of ≡ counts sizes.seats (views_of (farm_for sizes losses.now) set (pos time.0)) }
+pub fn view_of_set(farm: Farm, set: u16, time: Time) -> Counts
+    requires { (farm.sizes.seats ≤ limits.most_seats) × (time.0 ≤ limits.most_rounds) }
+    ensures { result.of ≡ counts farm.entry.sizes.seats (views_of (farm_in farm.entry) set (pos time.0)) }
 {
-    let views = views_at(losses, sizes, time);
-    joined_view(&views.of, sizes.seats, set)
+    let views = views_at(farm, time);
+    joined_view(&views.of, farm.sizes.seats, set)
 }

@@ -11,13 +11,13 @@ use Rattle.viewing.proofs.losses.was_lost.Goals as goal
 pub overflow_mul-at : goal.overflow_mul-at
 overflow_mul-at c =
     let a = c.args in
-    let h : a.begun.0 * a.seats ≤ 65535 * 255 = product-below a.begun.0 a.seats 65535 255 (omega arith) (omega arith) in
+    let h : a.begun.0 * a.farm.sizes.seats ≤ 65535 * 255 = product-below a.begun.0 a.farm.sizes.seats 65535 255 (omega arith) (omega arith) in
     omega arith
 
 pub overflow_add-at : goal.overflow_add-at
 overflow_add-at c =
     let a = c.args in
-    let h : a.begun.0 * a.seats ≤ 65535 * 255 = product-below a.begun.0 a.seats 65535 255 (omega arith) (omega arith) in
+    let h : a.begun.0 * a.farm.sizes.seats ≤ 65535 * 255 = product-below a.begun.0 a.farm.sizes.seats 65535 255 (omega arith) (omega arith) in
     omega arith
 
 pub returns : goal.returns

@@ -5,16 +5,15 @@ use Rattle.viewing.specs.Counts.{views_to, first_counts}
 use Rattle.knowledge.specs.Farm.{farm_of}
 use mathlib.Core.List.{[]}
 use native.Mathlib.Omega.{arith}
-use Prim.Native.Nat.{zero-le}
 use mathlib.Core.Path.{◌≡◌, ◌∙◌, ap}
 use Rattle.viewing.proofs.views.first_views.Goals as goal
 
 pub loop-p-init : goal.loop-p-init
-loop-p-init c = (zero-le, counts-none (farm_of c.args.seats 0 0 []) 0)
+loop-p-init c = counts-none (farm_of c.args.seats 0 0 []) 0
 
 pub loop-p-preserved : goal.loop-p-preserved
-loop-p-preserved c = (omega arith, first-turn c.args.seats c.loop-p.p c.loop-p.first c.requires (omega arith) c.loop-p.invariant.1)
+loop-p-preserved c = first-turn c.args.seats c.loop-p.p c.loop-p.first c.requires (omega arith) c.loop-p.invariant
 
 pub returns : goal.returns
 unfolding first_counts
-returns c = let e : c.loop-p.p ≡ c.args.seats = omega arith in c.loop-p.invariant.1 ∙ ap (views_to (farm_of c.args.seats 0 0 []) 0) e
+returns c = let e : c.loop-p.p ≡ c.args.seats = omega arith in c.loop-p.invariant ∙ ap (views_to (farm_of c.args.seats 0 0 []) 0) e

@@ -3,12 +3,8 @@
 use Rattle.viewing.specs.Counts.{views_to}
 use Rattle.knowledge.specs.Farm.{farm_of}
 use mathlib.Core.List.{[]}
-use Prim.Native.Nat.{◌-◌, ◌≤◌}
 use mathlib.Core.Path.{◌≡◌}
 use Rattle.viewing.proofs.views.first_views.Given as goal
 
 abbrev pub invariant-loop-p : goal.invariant-loop-p
-invariant-loop-p l = (l.p ≤ l.seats) × (l.first ≡ views_to (farm_of l.seats 0 0 []) 0 l.p)
-
-abbrev pub decreases-loop-p : goal.decreases-loop-p
-decreases-loop-p l = l.seats - l.p
+invariant-loop-p l = l.first ≡ views_to (farm_of l.seats 0 0 []) 0 l.p

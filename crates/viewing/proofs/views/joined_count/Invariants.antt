@@ -3,12 +3,8 @@
 use Rattle.viewing.specs.Counts.{view_in}
 use Rattle.knowledge.specs.Views.{joined}
 use Rattle.farm.specs.Sets.{bit}
-use Prim.Native.Nat.{◌-◌, ◌≤◌, ◌/◌, ◌^◌}
 use mathlib.Core.Path.{◌≡◌}
 use Rattle.viewing.proofs.views.joined_count.Given as goal
 
 abbrev pub invariant-loop-p : goal.invariant-loop-p
-invariant-loop-p l = (l.p ≤ l.seats) × (l.rest ≡ l.set / 2 ^ l.p) × (l.count ≡ joined l.p (bit l.set) (view_in l.views) l.of.0)
-
-abbrev pub decreases-loop-p : goal.decreases-loop-p
-decreases-loop-p l = l.seats - l.p
+invariant-loop-p l = l.count ≡ joined l.p (bit l.set) (view_in l.views) l.of.0

@@ -1,7 +1,7 @@
 -- `viewing::views::view_of` meets its contract: the seat's part of the table of all views.
 -- Assumes nothing.
 use Rattle.viewing.proofs.ViewSteps.{seat-view-is}
-use Rattle.viewing.specs.Counts.{farm_for}
+use Rattle.viewing.specs.Counts.{farm_in}
 use mathlib.Core.Path.{◌∙◌}
 use Rattle.viewing.proofs.views.view_of.Goals as goal
 
@@ -9,4 +9,4 @@ pub returns : goal.returns
 returns c =
     let a = c.args in
     c.seat_view.ensures
-    ∙ seat-view-is (farm_for a.sizes a.losses.now) a.time.0 a.seat.0 _ c.requires.0 c.requires.1 c.views_at-views.ensures
+    ∙ seat-view-is (farm_in a.farm) a.time.0 a.seat.0 _ c.requires.0 c.requires.1 c.views_at-views.ensures
