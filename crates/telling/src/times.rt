@@ -17,8 +17,7 @@ pub fn put_times(counts: &[u16], seats: u8, out: &mut [i16])
     requires { (seats ≤ length counts.now) × (seats ≤ length out.old) × InTime counts.now }
     ensures { out.new ≡ laid (latest_times seats (held counts.now)) out.old }
 {
-    let end = seats as usize;
-    for q in 0..end {
+    for q in 0..seats as usize {
         out[q] = latest_time(counts[q]);
     }
 }

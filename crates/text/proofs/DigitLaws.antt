@@ -8,7 +8,12 @@ use native.Mathlib.Omega.{arith}
 use lib.ListN.{length, get_or, length-append, get_or-append}
 use borrow.Author.Tests.{lt-ltb, le-ltb}
 use Rattle.farm.proofs.Cases.{less-or-not}
-use Rattle.text.specs.Digits.{Text, digit, digits_of, decimal, value_of}
+use Rattle.std.specs.Fmt.{decimal as printed, signed_decimal as printed-signed}
+use Rattle.std.proofs.lemmas.Fmt.{decimal_by_steps}
+use lib.IntN.{ℤ, pos, negsuc}
+use mir.Syntax.{w16}
+use mir.Val.{SFits}
+use Rattle.text.specs.Digits.{Text, digit, digits_of, decimal, signed, value_of}
 
 -- ════ Any count that suffices gives the same digits ════
 
@@ -113,3 +118,16 @@ decimal-first =
     (λ v large fewer h.
     rw (decimal-large v large, get_or-append (decimal (v / 10)) (digit (v % 10) ∷ []) 0 0 (decimal-long (v / 10)))
     (fewer (omega arith)))
+
+-- ════ As the kit prints it ════
+
+pub decimal-printed : (v : ℕ) → v < 2 ^ 64 → printed v ≡ decimal v
+decimal-printed =
+    decimal_by_steps (λ v text. text ≡ decimal v)
+    (λ v small. sym (decimal-small v small))
+    (λ v text large same. rw (same, decimal-large v large))
+
+pub signed-printed : (z : ℤ) → SFits w16 z → printed-signed z ≡ signed z
+unfolding signed
+signed-printed (pos v) f = let narrow = f.sfits in decimal-printed v (omega arith)
+signed-printed (negsuc v) f = let narrow = f.sfits in ap (λ (t : Text). 45 ∷ t) (decimal-printed (suc v) (omega arith))

@@ -1,35 +1,22 @@
 -- Texts put one after the other into a buffer are their join put at once. Assumes nothing.
 use mathlib.Core.Path.{◌≡◌, refl, sym, ◌∙◌, ap}
 use mathlib.Core.List.{List, [], ◌∷◌, ◌++◌, append_assoc}
-use Prim.Native.Nat.{ℕ, suc, ◌+◌, ◌<◌, ◌≤◌}
+use Prim.Native.Nat.{ℕ, ◌+◌, ◌<◌, ◌≤◌}
 use native.Mathlib.Omega.{arith}
 use native.Mathlib.Nat.{add_assoc, add-zero}
 use native.Mathlib.Numerals.{add-one}
 use lib.ListN.{length, take, drop, set, length-append, length-set}
-use lib.Seq.{length-take-le, take_at, drop_at, drop-append-add, drop-drop, set_split, take-set-le, paste-zero}
+use lib.Seq.{length-take-le, take_at, drop-append-add, drop-drop, set_split, paste-zero}
 use Rattle.text.specs.Digits.{Text}
 use Rattle.text.specs.Putting.{written, Puts, PutsWithin}
 
 -- A byte that is stored is a text of one byte.
-pub put_one : (buffer : List ℕ) (at byte : ℕ) → at < length buffer → set buffer at byte ≡ written (byte ∷ []) at buffer
+put_one : (buffer : List ℕ) (at byte : ℕ) → at < length buffer → set buffer at byte ≡ written (byte ∷ []) at buffer
 unfolding written
 put_one buffer at byte h = set_split buffer at byte h ∙ rw (append_assoc, add-one) refl
 
 pub puts-byte : (buffer : List ℕ) (at byte : ℕ) → at < length buffer → Puts (byte ∷ []) at buffer (set buffer at byte) (at + 1)
 puts-byte buffer at byte h = record { end = refl; bytes = put_one buffer at byte h }
-
--- A byte that is stored before the text in front of it: what digits that are put from the last one ask for.
-pub put_last : (buffer : List ℕ) (at : ℕ) (a : Text) (byte : ℕ) → at + length a < length buffer
-    → written a at (set buffer (at + length a) byte) ≡ written (a ++ byte ∷ []) at buffer
-unfolding written
-put_last buffer at a byte h =
-    let before : at ≤ at + length a = omega arith in
-    rw (take-set-le at buffer (at + length a) byte, rest, length-append, ← add_assoc, add-one) (simp append_assoc)
-  where
-    rest : drop (at + length a) (set buffer (at + length a) byte) ≡ byte ∷ drop (suc (at + length a)) buffer
-    rest =
-        rw (set_split buffer (at + length a) byte h)
-        (drop_at (take (at + length a) buffer) _ (at + length a) (length-take-le (at + length a) buffer (omega arith)))
 
 module _ (buffer : List ℕ) (at : ℕ) (inside : at ≤ length buffer) where
   front : (a : Text) → length (take at buffer ++ a) ≡ at + length a
@@ -87,3 +74,8 @@ told-then h first second = record {
   puts = puts_then h first second.puts;
   within = omega (arith, first.end, second.within);
 }
+
+-- A word that is put in at most so many bytes, where it is the text.
+pub few-put : {k : ℕ} {word text : Text} {at end : ℕ} {old new : List ℕ} → Puts word at old new end
+    → word ≡ text → length word ≤ k → PutsWithin k text at old new end
+few-put put same few = record { puts = rw same at put; within = omega (arith, put.end) }

@@ -1,6 +1,6 @@
 // What follows in a line: a blank, and then a number. Each is put at a place of a lent buffer, and the
 // answer is the place after it.
-ghost use Rattle.std.specs.Prelude.{◌≡◌, ◌∷◌, ◌++◌, map, ◌+◌, ◌≤◌, min, length, take};
+ghost use Rattle.std.specs.Prelude.{◌∷◌, ◌++◌, map, ◌+◌, ◌≤◌, length, take};
 ghost use Rattle.text.specs.Digits.{decimal, signed};
 ghost use Rattle.text.specs.Putting.{PutsWithin};
 ghost use Rattle.text.specs.Words.{blank, following};
@@ -33,24 +33,14 @@ pub fn put_named(out: &mut [u8], at: usize, name: &[u8], value: u16) -> usize
     put_field(out, number, value)
 }
 
-// How many core numbers there are to print.
-fn printed(seats: u8) -> usize
-    ensures { result ≡ min seats 7 }
-{
-    if seats < 7 { seats as usize } else { 7 }
-}
-
 // The core numbers of the first seats, each in at most seven bytes.
 pub fn put_core(out: &mut [u8], at: usize, core: [i16; 7], seats: u8) -> usize
     requires { at + 49 ≤ length out.old }
     ensures { PutsWithin 49 (following (map signed (take seats core))) at out.old out.new result }
 {
-    let end = printed(seats);
     let mut place = at;
-    let mut seat = 0;
-    while seat < end {
-        place = put_signed_field(out, place, core[seat]);
-        seat += 1;
+    for number in &core[..seats.min(7) as usize] {
+        place = put_signed_field(out, place, *number);
     }
     place
 }

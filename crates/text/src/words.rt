@@ -6,10 +6,7 @@ pub fn put_word(out: &mut [u8], at: usize, word: &[u8]) -> usize
     requires { at + length word.now ≤ length out.old }
     ensures { Puts word.now at out.old out.new result }
 {
-    let mut done = 0;
-    while done < word.len() {
-        out[at + done] = word[done];
-        done += 1;
-    }
-    at + done
+    let end = at + word.len();
+    out[at..end].copy_from_slice(word);
+    end
 }

@@ -3,14 +3,13 @@
 -- Assumes nothing.
 use Rattle.telling.specs.Marks.{count_in}
 use Rattle.viewing.specs.Counts.{held}
-use lib.ListN.{length, drop}
-use Prim.Native.Nat.{◌+◌, ◌-◌, ◌≤◌}
+use Rattle.std.specs.Iterator.Adapters.{zip_first, zip_second}
+use Rattle.std.specs.Slice.Iter.{iter_rest}
+use Prim.Native.Nat.{◌+◌}
 use mathlib.Core.Path.{◌≡◌}
 use Rattle.telling.proofs.marks.count_marks.Given as goal
 
-abbrev pub invariant-loop-edit : goal.invariant-loop-edit
-invariant-loop-edit l =
-    (l.edit ≤ length l.editors) × (l.count ≤ l.edit) × (l.count + count_in (held l.core) (drop l.edit l.editors) (drop l.edit l.times) ≡ count_in (held l.core) l.editors l.times)
-
-abbrev pub decreases-loop-edit : goal.decreases-loop-edit
-decreases-loop-edit l = length l.editors - l.edit
+abbrev pub invariant-loop-editor : goal.invariant-loop-editor
+invariant-loop-editor l =
+    l.count + count_in (held l.core) (iter_rest (zip_first l.editor-iterator)) (iter_rest (zip_second l.editor-iterator))
+    ≡ count_in (held l.core) l.edits.editors.now l.edits.times.now

@@ -1,59 +1,35 @@
--- `telling::marks::put_marks` meets its contract. The loop's invariant: the buffer's first i bytes are the marks of the first i
--- edits, and the others are the old ones.
+-- `telling::marks::put_marks` meets its contract: each mark is laid in its place.
 -- Assumes nothing.
-use Rattle.telling.proofs.LaidLaws.{laid-turn, laid-whole}
-use Rattle.telling.proofs.MarkLaws.{length-marks, get_or-marks}
-use Rattle.telling.specs.Marks.{marks_in}
+use Rattle.telling.proofs.LaidLaws.{laid-one}
+use Rattle.telling.proofs.MarkLaws.{marks-one, marks-none}
+use Rattle.telling.specs.Laid.{laid}
 use Rattle.viewing.specs.Counts.{held}
-use lib.ListN.{length, length-set}
+use Rattle.std.proofs.lemmas.List.{take-append-drop}
+use Rattle.std.proofs.lemmas.Slice.Zip.{either_empty_from_Zip}
+use Rattle.std.specs.Iterator.Adapters.{enumerate_source, enumerate_count}
+use lib.ListN.{length, take, drop}
+use mathlib.Core.List.{List, ◌++◌}
+use Prim.Native.Nat.{ℕ}
 use native.Mathlib.Omega.{arith}
-use mathlib.Core.Path.{◌≡◌, refl, sym, ◌∙◌}
+use mathlib.Core.Path.{refl, sym, ◌∙◌, ap}
 use Rattle.telling.proofs.marks.put_marks.Goals as goal
 
-pub loop-i-init : goal.loop-i-init
-loop-i-init c = (omega arith, refl, refl)
-
-pub bounds-editors-i : goal.bounds-editors-i
-bounds-editors-i c = omega arith
-
-pub offset_bounds-times-i : goal.offset_bounds-times-i
-offset_bounds-times-i c = omega arith
-
-pub bounds-times-i : goal.bounds-times-i
-bounds-times-i c = omega arith
-
-pub bounds-out-i : goal.bounds-out-i
-bounds-out-i c = omega arith
-
-pub overflow_add-i : goal.overflow_add-i
-overflow_add-i c = omega arith
-
-pub loop-i-smaller : goal.loop-i-smaller
-loop-i-smaller c = omega arith
-
-pub loop-i-preserved : goal.loop-i-preserved
-loop-i-preserved c =
-    let s = c in
-    let a = s.args in
-    let pre = s.requires in
-    let l = c.loop-i in
-    let new = marks_in (held a.core.now) a.editors.now a.times.now in
-    let full : length new ≡ length a.editors.now = length-marks (held a.core.now) a.editors.now a.times.now pre.0 in (
+pub loop-edit-preserved : goal.loop-edit-preserved
+loop-edit-preserved c =
+    let s = c.in-Some.ensures.steps in
+    let l = c.loop-edit.invariant in
+    let short = ap length s.0.0 in (
       omega arith,
-      simp length-set l.invariant.1,
-      laid-turn l.i new a.out.now l.out _ 0 (omega arith) (omega arith) l.invariant.2
-          (c.mark_of.ensures ∙ sym (get_or-marks (held a.core.now) a.editors.now a.times.now l.i pre.0 (omega arith))),
+      rw (s.2, s.1, c.mark_of.ensures)
+          (laid-one _ _ c.loop-edit.out _ (omega arith)
+          ∙ ap (λ (m : List ℕ). take (enumerate_count c.loop-edit.edit-iterator) c.loop-edit.out ++ laid m (drop (enumerate_count c.loop-edit.edit-iterator) c.loop-edit.out))
+          (sym (marks-one (held c.args.core.now) _ _ _ _ _ _ s.0.0 s.0.1))
+          ∙ l.1),
     )
-
-pub shape_of-out : goal.shape_of-out
-shape_of-out c = c.loop-i.invariant.1
 
 pub returns : goal.returns
 returns c =
-    let s = c in
-    let a = s.args in
-    let pre = s.requires in
-    let l = c.loop-i in
-    let new = marks_in (held a.core.now) a.editors.now a.times.now in
-    let full : length new ≡ length a.editors.now = length-marks (held a.core.now) a.editors.now a.times.now pre.0 in
-    laid-whole l.i new a.out.now l.out (omega arith) l.invariant.2
+    let pairs = enumerate_source c.loop-edit.edit-iterator in
+    let none = marks-none (held c.args.core.now) _ _ (either_empty_from_Zip pairs (enumerate_source c.next.new.self) _ refl c.in-None.ensures.steps.0) in
+    let all = rw none at c.loop-edit.invariant.1 in
+    sym (take-append-drop _ c.loop-edit.out) ∙ all
