@@ -11,7 +11,7 @@ use borrow.Author.Tests.{lt-ltb}
 use Rattle.farm.specs.Sets.{Seats, bit, any}
 use Rattle.farm.specs.declared.places.Time.{Time}
 use Rattle.farm.proofs.SetLaws.{any-intro, any_none, collect-equal, bit-collect}
-use Rattle.knowledge.specs.Farm.{Farm, lost_in, farm_of, loses_in, loses_by, losers_by, time}
+use Rattle.knowledge.specs.Farm.{Farm, loses_in, loses_by, losers_by, time}
 use Rattle.knowledge.specs.Views.{View, view}
 use Rattle.knowledge.specs.Known.{missed_at, missed, known_in}
 use Rattle.viewing.specs.Counts.{room, counts, held, view_in, all_counts}
@@ -39,23 +39,20 @@ pub lost-start : (farm : Farm) (z q : ℕ) → lost_before farm z q 1 ≡ false
 unfolding lost_before any
 lost-start farm z q = refl
 
-pub lost-at : (n t R : ℕ) (table : List Seats) (z q r : ℕ) (b : Bool) → 1 ≤ r → b ≡ lost_in n table (suc (r - 1)) z q
-    → b ≡ (ltb 0 r && (farm_of n t R table).lost r z q)
-lost-at n t R table z q r b begun e =
+pub lost-at : (farm : Farm) (z q r : ℕ) (b : Bool) → 1 ≤ r → b ≡ farm.lost (suc (r - 1)) z q → b ≡ (ltb 0 r && farm.lost r z q)
+lost-at farm z q r b begun e =
     let same : suc (r - 1) ≡ r = omega arith in
     rw (lt-ltb 0 r begun, ← same) e
 
-pub lost-found : (n t R : ℕ) (table : List Seats) (z q r count : ℕ) (b : Bool) → 1 ≤ r → r < count
-    → b ≡ lost_in n table (suc (r - 1)) z q → b ≡ true → true ≡ lost_before (farm_of n t R table) z q count
+pub lost-found : (farm : Farm) (z q r count : ℕ) (b : Bool) → 1 ≤ r → r < count
+    → b ≡ farm.lost (suc (r - 1)) z q → b ≡ true → true ≡ lost_before farm z q count
 unfolding lost_before
-lost-found n t R table z q r count b begun h e found =
-    any_found count (λ s. ltb 0 s && (farm_of n t R table).lost s z q) r b h (lost-at n t R table z q r b begun e) found
+lost-found farm z q r count b begun h e found = any_found count (λ s. ltb 0 s && farm.lost s z q) r b h (lost-at farm z q r b begun e) found
 
-pub lost-turn : (n t R : ℕ) (table : List Seats) (z q r : ℕ) (b : Bool) → 1 ≤ r → lost_before (farm_of n t R table) z q r ≡ false
-    → b ≡ lost_in n table (suc (r - 1)) z q → b ≡ false → lost_before (farm_of n t R table) z q (r + 1) ≡ false
+pub lost-turn : (farm : Farm) (z q r : ℕ) (b : Bool) → 1 ≤ r → lost_before farm z q r ≡ false
+    → b ≡ farm.lost (suc (r - 1)) z q → b ≡ false → lost_before farm z q (r + 1) ≡ false
 unfolding lost_before
-lost-turn n t R table z q r b begun before e none =
-    any-turn r (λ s. ltb 0 s && (farm_of n t R table).lost s z q) b before (lost-at n t R table z q r b begun e) none
+lost-turn farm z q r b begun before e none = any-turn r (λ s. ltb 0 s && farm.lost s z q) b before (lost-at farm z q r b begun e) none
 
 pub lost-end : (farm : Farm) (z q r count : ℕ) → count ≤ r → lost_before farm z q r ≡ false → false ≡ lost_before farm z q count
 unfolding lost_before

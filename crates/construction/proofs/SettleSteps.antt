@@ -1,6 +1,7 @@
 -- The recursion of the construction, each law over plain values: the time that lies back, the view that is looked at, and a
 -- step with the size of the known set as what is left of the steps.
 -- Assumes nothing.
+use Rattle.std.specs.Prelude.{Ok, Err}
 use mathlib.Core.Path.{◌≡◌, refl, sym, ◌∙◌, ap, ap₂}
 use mathlib.Core.Logic.{◌⊎◌, inl, inr, ◌≢◌, ⊎_elim}
 use mathlib.Core.List.{List}
@@ -27,9 +28,6 @@ use Rattle.construction.specs.Answers.{Shrinks, settled_for, answer_for}
 use Rattle.knowledge.specs.Known.{known_in, known_of}
 use Rattle.viewing.specs.declared.views.Counts.{Counts}
 use Rattle.construction.specs.declared.settled.Settled.{Settled}
-use Rattle.construction.specs.declared.settled.Answer.{Answer}
-use Rattle.construction.specs.declared.settled.Ruling.{Ruling}
-use Rattle.construction.specs.declared.settled.Ruling.TheVariants.{Answered, Refused}
 use Rattle.construction.proofs.KnownSteps.{known-held}
 use Rattle.knowledge.proofs.ChainLaws.{stage-start, settle-stops, settle-goes-on, settle-over, settle-within}
 use Rattle.knowledge.proofs.ChainTheory.{Falling, change-falls, next-falls, stage-falls}
@@ -173,9 +171,6 @@ next-is-less farm ℓ known result s e moved = rw e (change-is-less farm ℓ kno
 abbrev pub the-settled : ℕ → ℤ → Seats → Counts → Settled
 the-settled steps critical kept core = record { steps = steps; critical = critical; kept = kept; core = core }
 
-abbrev pub the-answer : Ruling → Settled → Answer
-the-answer ruling settled = record { ruling = ruling; settled = settled }
-
 -- No change.
 pub settled_here : (farm : Farm) (ℓ steps : ℕ) (known result : Seats) (critical : ℤ) (core : Counts) → Shrinks farm (time ℓ) known
     → result ≡ next farm ℓ known → result ≡ known → critical ≡ pos ℓ -ℤ pos (farm.bound + 1 - size farm.seats known)
@@ -203,16 +198,13 @@ own-shrinks farm fits p ℓ hp known e within =
     falling-shrinks farm ℓ.0 known (rw same at (stage-falls farm fits p ℓ hp (rw same within) 0))
 
 pub answer-over : (farm : Farm) (p : Seat) (ℓ : Time) (known : Seats) (count : ℕ) → known ≡ known_of farm p ℓ
-    → count ≡ size farm.seats known → farm.bound < count
-    → the-answer (Refused OverBound) (the-settled 0 (pos 0) 0 (record { of = replicate room 0 })) ≡ answer_for farm.seats (outcome_of farm p ℓ)
-answer-over farm p ℓ known count e es over =
-    rw (settle-over farm ℓ.0 (known_of farm p ℓ) (rw (es, e) at over))
-    (ap (λ (l : List ℕ). the-answer (Refused OverBound) (the-settled 0 (pos 0) 0 (record { of = l }))) (counts_zero farm.seats))
+    → count ≡ size farm.seats known → farm.bound < count → Err OverBound ≡ answer_for farm.seats (outcome_of farm p ℓ)
+answer-over farm p ℓ known count e es over = rw (settle-over farm ℓ.0 (known_of farm p ℓ) (rw (es, e) at over))
 
 pub answer-within : (farm : Farm) (p : Seat) (ℓ : Time) (known : Seats) (count : ℕ) (r : Settled) → known ≡ known_of farm p ℓ
     → count ≡ size farm.seats known → count ≤ farm.bound
     → r ≡ settled_for farm.seats (settle_from farm ℓ.0 (size farm.seats known) 1 known)
-    → the-answer Answered r ≡ answer_for farm.seats (outcome_of farm p ℓ)
+    → Ok r ≡ answer_for farm.seats (outcome_of farm p ℓ)
 answer-within farm p ℓ known count r e es within er =
     rw (settle-within farm ℓ.0 (known_of farm p ℓ) (rw (es, e) at within))
-    (ap (the-answer Answered) (rw e at er))
+    (ap Ok (rw e at er))

@@ -1,7 +1,8 @@
 -- What the code answers, for each outcome of specs/Settled.antt: the meaning of each case of its structs and enums.
-use Rattle.std.specs.Prelude.{◌≡◌, true, ℕ, ◌^◌, ◌≤◌, ◌<◌, pos}
+use Rattle.std.specs.Prelude.{◌≡◌, true, ℕ, ◌^◌, ◌≤◌, ◌<◌, Result, Ok, Err}
 use Rattle.farm.specs.Sets.{Seats, bit, size}
 use Rattle.farm.specs.declared.places.Time.{Time}
+use Rattle.farm.specs.declared.refusals.Refusal.{Refusal}
 use Rattle.farm.specs.declared.refusals.Refusal.TheVariants.{OverBound}
 use Rattle.knowledge.specs.Farm.{Farm}
 use Rattle.knowledge.specs.Views.{View}
@@ -10,8 +11,6 @@ use Rattle.knowledge.specs.Settled.{Outcome, over_bound, settled, core_view, nex
 use Rattle.viewing.specs.Counts.{counts}
 use Rattle.viewing.specs.declared.views.Counts.{Counts}
 use Rattle.construction.specs.declared.settled.Settled.{Settled}
-use Rattle.construction.specs.declared.settled.Answer.{Answer}
-use Rattle.construction.specs.declared.settled.Ruling.TheVariants.{Answered, Refused}
 
 -- ════ Answers ════
 
@@ -22,14 +21,10 @@ counts_for n v = record { of = counts n v }
 abbrev pub settled_for : ℕ → rules.Settled → Settled
 settled_for n s = record { steps = s.steps; critical = s.critical; kept = s.kept; core = counts_for n s.core }
 
--- What stands beside a refusal.
-abbrev pub nothing : ℕ → Settled
-nothing n = record { steps = 0; critical = pos 0; kept = 0; core = counts_for n (λ q. 0) }
-
 -- Rule 6: refusal 9, or the settled answer.
-abbrev pub answer_for : ℕ → Outcome → Answer
-answer_for n over_bound = record { ruling = Refused OverBound; settled = nothing n }
-answer_for n (settled s) = record { ruling = Answered; settled = settled_for n s }
+abbrev pub answer_for : ℕ → Outcome → Result Settled Refusal
+answer_for n over_bound = Err OverBound
+answer_for n (settled s) = Ok (settled_for n s)
 
 -- ════ What the recursion of the construction stands on ════
 

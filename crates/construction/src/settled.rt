@@ -3,7 +3,7 @@
 ghost use Rattle.std.specs.Prelude.{◌≡◌, ◌+◌, ◌-◌, ◌≤◌, ◌<◌, pos, ◌-ℤ◌};
 ghost use Rattle.farm.specs.Limits.{limits};
 ghost use Rattle.farm.specs.Sets.{size};
-ghost use Rattle.viewing.specs.Counts.{counts, farm_for};
+ghost use Rattle.viewing.specs.Counts.{counts, farm_in};
 ghost use Rattle.knowledge.specs.Settled.{outcome_of};
 ghost use Rattle.construction.specs.Answers.{core_at, settled_from, Shrinks, settled_for, answer_for};
 
@@ -11,6 +11,7 @@ use crate::known::{known_in, known_of};
 use crate::sets::{seats_outside, size_of};
 use farm::places::{Seat, Time};
 use farm::refusals::Refusal;
+use viewing::farms::Farm;
 use viewing::sizes::Sizes;
 use viewing::views::{Counts, ROOM, view_of_set};
 
@@ -21,20 +22,6 @@ pub struct Settled {
     pub critical: i16,
     pub kept: u16,
     pub core: Counts,
-}
-
-// Whether the question is answered; of the refusals only OverBound (9) is given here.
-#[derive(Clone, Copy)]
-pub enum Ruling {
-    Answered,
-    Refused(Refusal),
-}
-
-// A ruling, and beside it the settled answer, which is all 0 beside a refusal.
-#[derive(Clone, Copy)]
-pub struct Answer {
-    pub ruling: Ruling,
-    pub settled: Settled,
 }
 
 // How far the critical time lies back, t + 1 - |B| rounds.
@@ -54,32 +41,28 @@ fn time_back(time: Time, delay: u16) -> i16
 }
 
 // The view of all seats outside the known set at the critical time that follows from it.
-fn core_view(losses: &[u16], sizes: Sizes, time: Time, known: u16) -> Counts
-    requires { (sizes.seats ≤ limits.most_seats) × (time.0 ≤ limits.most_rounds) × (size sizes.seats known ≤ sizes.bound) }
-    ensures { result.of ≡ counts sizes.seats (core_at (farm_for sizes losses.now) time known) }
+fn core_view(farm: Farm, time: Time, known: u16) -> Counts
+    requires { (farm.sizes.seats ≤ limits.most_seats) × (time.0 ≤ limits.most_rounds) × (size farm.sizes.seats known ≤ farm.sizes.bound) }
+    ensures { result.of ≡ counts farm.entry.sizes.seats (core_at (farm_in farm.entry) time known) }
 {
-    let back = delay(sizes, known);
+    let back = delay(farm.sizes, known);
     if time.0 < back {
         return Counts { of: [0; ROOM] };
     }
-    view_of_set(
-        losses,
-        sizes,
-        seats_outside(known, sizes.seats),
-        Time(time.0 - back),
-    )
+    let trusted = seats_outside(known, farm.sizes.seats);
+    view_of_set(farm, trusted, Time(time.0 - back))
 }
 
 // The steps from a known set on: where the next known set is the same, they are done.
-fn settle_from(losses: &[u16], sizes: Sizes, time: Time, steps: u8, known: u16) -> Settled
-    requires seats_le_most_seats { (sizes.seats ≤ limits.most_seats) × (sizes.bound < sizes.seats) × (time.0 ≤ limits.most_rounds) × (steps + size sizes.seats known ≤ 255) }
-    requires shrinks { Shrinks (farm_for sizes losses.now) time known }
-    ensures { result ≡ settled_for sizes.seats (settled_from (farm_for sizes losses.now) time (size sizes.seats known) steps known) }
+fn settle_from(farm: Farm, time: Time, steps: u8, known: u16) -> Settled
+    requires seats_le_most_seats { (farm.sizes.seats ≤ limits.most_seats) × (farm.sizes.bound < farm.sizes.seats) × (time.0 ≤ limits.most_rounds) × (steps + size farm.sizes.seats known ≤ 255) }
+    requires shrinks { Shrinks (farm_in farm) time known }
+    ensures { result ≡ settled_for farm.entry.sizes.seats (settled_from (farm_in farm.entry) time (size farm.entry.sizes.seats known) steps known) }
 {
-    let core = core_view(losses, sizes, time, known);
-    let next = known_in(losses, sizes, &core.of);
+    let core = core_view(farm, time, known);
+    let next = known_in(farm, &core.of);
     if next == known {
-        let critical = time_back(time, delay(sizes, known));
+        let critical = time_back(time, delay(farm.sizes, known));
         return Settled {
             steps: steps,
             critical: critical,
@@ -87,29 +70,17 @@ fn settle_from(losses: &[u16], sizes: Sizes, time: Time, steps: u8, known: u16) 
             core: core,
         };
     }
-    settle_from(losses, sizes, time, steps + 1, next)
+    settle_from(farm, time, steps + 1, next)
 }
 
-// What a seat gets at a time.
-pub fn settle(losses: &[u16], sizes: Sizes, seat: Seat, time: Time) -> Answer
-    requires { (sizes.seats ≤ limits.most_seats) × (sizes.bound < sizes.seats) × (seat.0 < sizes.seats) × (time.0 ≤ limits.most_rounds) }
-    ensures { result ≡ answer_for sizes.seats (outcome_of (farm_for sizes losses.now) seat time) }
+// What a seat gets at a time; of the refusals only OverBound (9) is given here.
+pub fn settle(farm: Farm, seat: Seat, time: Time) -> Result<Settled, Refusal>
+    requires { (farm.sizes.seats ≤ limits.most_seats) × (farm.sizes.bound < farm.sizes.seats) × (seat.0 < farm.sizes.seats) × (time.0 ≤ limits.most_rounds) }
+    ensures { result ≡ answer_for farm.entry.sizes.seats (outcome_of (farm_in farm.entry) seat time) }
 {
-    let known = known_of(losses, sizes, seat, time);
-    if sizes.bound < size_of(known, sizes.seats) {
-        let none = Settled {
-            steps: 0,
-            critical: 0,
-            kept: 0,
-            core: Counts { of: [0; ROOM] },
-        };
-        return Answer {
-            ruling: Ruling::Refused(Refusal::OverBound),
-            settled: none,
-        };
+    let known = known_of(farm, seat, time);
+    if farm.sizes.bound < size_of(known, farm.sizes.seats) {
+        return Err(Refusal::OverBound);
     }
-    Answer {
-        ruling: Ruling::Answered,
-        settled: settle_from(losses, sizes, time, 1, known),
-    }
+    Ok(settle_from(farm, time, 1, known))
 }

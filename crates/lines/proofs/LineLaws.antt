@@ -6,7 +6,7 @@ use Prim.Native.Nat.{ℕ}
 use lib.ListN.{take}
 use Rattle.farm.specs.declared.places.Seat.{Seat}
 use Rattle.farm.specs.declared.places.Time.{Time}
-use Rattle.lines.specs.declared.printing.HeaderLine.{HeaderLine}
+use Rattle.record.specs.declared.header.Header.{Header}
 use Rattle.lines.specs.declared.printing.PlaceLine.{PlaceLine}
 use Rattle.text.specs.Digits.{Text, decimal, signed}
 use Rattle.lines.specs.Lines.{header_line, standing, place_text, place_line, over_line, refused_line}
@@ -31,7 +31,7 @@ one-pair a b end = simp append-nil
 
 -- ════ The lines ════
 
-pub header-text : (h : HeaderLine) → header_line h
+pub header-text : (h : Header) → header_line h
     ≡ (ascii "seats" ++ blank ∷ decimal h.seats)
     ++ (ascii " bound" ++ blank ∷ decimal h.bound)
     ++ (ascii " rounds" ++ blank ∷ decimal h.rounds)

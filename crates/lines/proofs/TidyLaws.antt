@@ -11,7 +11,7 @@ use lib.ListN.{length, take, length-append}
 use Rattle.farm.proofs.Cases.{and_intro, and-elim}
 use Rattle.farm.specs.declared.places.Seat.{Seat}
 use Rattle.farm.specs.declared.places.Time.{Time}
-use Rattle.lines.specs.declared.printing.HeaderLine.{HeaderLine}
+use Rattle.record.specs.declared.header.Header.{Header}
 use Rattle.lines.specs.declared.printing.PlaceLine.{PlaceLine}
 use Rattle.text.specs.Digits.{Text, digit, decimal, signed}
 use Rattle.lines.specs.Lines.{header_line, standing, place_line, over_line, refused_line}
@@ -108,7 +108,7 @@ tidy-line {first} {words} s more =
 
 -- ════ The four lines ════
 
-pub header-tidy : (h : HeaderLine) → tidy false (header_line h) ≡ true
+pub header-tidy : (h : Header) → tidy false (header_line h) ≡ true
 unfolding header_line ascii above
 header-tidy h =
     tidy-line (record { begun = omega arith; all = refl }) (

@@ -2,13 +2,13 @@
 use Rattle.std.specs.Prelude.{Bool, true, false, [], ◌∷◌, ◌++◌, map, ℕ, take}
 use Rattle.farm.specs.declared.places.Seat.{Seat}
 use Rattle.farm.specs.declared.places.Time.{Time}
-use Rattle.lines.specs.declared.printing.HeaderLine.{HeaderLine}
+use Rattle.record.specs.declared.header.Header.{Header}
 use Rattle.lines.specs.declared.printing.PlaceLine.{PlaceLine}
 use Rattle.text.specs.Digits.{Text, decimal, signed}
 use Rattle.text.specs.Words.{ascii, following, line}
 
 -- The first line: seats, bound, rounds, edits.
-unfoldable pub header_line : HeaderLine → Text
+unfoldable pub header_line : Header → Text
 header_line h =
     line (ascii "seats") (
     decimal h.seats

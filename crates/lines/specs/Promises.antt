@@ -2,7 +2,7 @@
 use Rattle.std.specs.Prelude.{◌≡◌, Bool, true, false, ℕ, ◌<◌, ◌≤◌, length, get_or}
 use Rattle.farm.specs.declared.places.Seat.{Seat}
 use Rattle.farm.specs.declared.places.Time.{Time}
-use Rattle.lines.specs.declared.printing.HeaderLine.{HeaderLine}
+use Rattle.record.specs.declared.header.Header.{Header}
 use Rattle.lines.specs.declared.printing.PlaceLine.{PlaceLine}
 use Rattle.text.specs.Digits.{digit, decimal, value_of}
 use Rattle.lines.specs.Lines.{header_line, place_line, over_line, refused_line}
@@ -23,7 +23,7 @@ DigitsFew = ((v : ℕ) → v < 65536 → length (decimal v) ≤ 5) × ((v : ℕ)
 -- Whatever its numbers are, a line has single blanks, no blank at its end, and one newline, which is its last byte.
 abbrev pub LinesTidy : Type 0
 LinesTidy =
-    ((h : HeaderLine) → tidy false (header_line h) ≡ true)
+    ((h : Header) → tidy false (header_line h) ≡ true)
     × ((p : PlaceLine) → tidy false (place_line p) ≡ true)
     × ((time : Time) (seat : Seat) (loser : Bool) → tidy false (over_line time seat loser) ≡ true)
     × ((number : ℕ) → tidy false (refused_line number) ≡ true)

@@ -1,31 +1,29 @@
 -- `construction::known::missed_at` meets its contract: before round r none of the rounds below r has lost the send.
 -- Assumes nothing.
 use Rattle.construction.proofs.KnownSteps.{lost-start, lost-found, lost-turn, lost-end}
-use Rattle.viewing.specs.Counts.{farm_for}
+use Rattle.viewing.specs.Counts.{farm_in}
 use native.Mathlib.Omega.{arith}
 use Rattle.construction.proofs.known.missed_at.Goals as goal
 
 pub loop-r-init : goal.loop-r-init
-loop-r-init c = let a = c.args in (omega arith, lost-start (farm_for a.sizes a.losses.now) a.z.0 a.q.0)
+loop-r-init c = let a = c.args in lost-start (farm_in a.farm) a.z.0 a.q.0
 
 pub returns-then-was_lost : goal.returns-then-was_lost
 returns-then-was_lost c =
     let a = c.args in
     let l = c.loop-r in
-    lost-found a.sizes.seats a.sizes.bound a.sizes.rounds a.losses.now a.z.0 a.q.0 l.r a.count
-    c.was_lost.result l.invariant.0 c.loop-r-test.true c.was_lost.ensures c.if-was_lost.true
+    lost-found (farm_in a.farm) a.z.0 a.q.0 l.r a.count
+    c.was_lost.result (omega arith) c.loop-r-test.true c.was_lost.ensures c.if-was_lost.true
 
 pub loop-r-preserved : goal.loop-r-preserved
 loop-r-preserved c =
     let a = c.args in
-    let l = c.loop-r in (
-      omega arith,
-      lost-turn a.sizes.seats a.sizes.bound a.sizes.rounds a.losses.now a.z.0 a.q.0 l.r c.was_lost.result
-          l.invariant.0 l.invariant.1 c.was_lost.ensures c.if-was_lost.false,
-    )
+    let l = c.loop-r in
+    lost-turn (farm_in a.farm) a.z.0 a.q.0 l.r c.was_lost.result
+    (omega arith) l.invariant c.was_lost.ensures c.if-was_lost.false
 
 pub returns : goal.returns
 returns c =
     let a = c.args in
     let l = c.loop-r in
-    lost-end (farm_for a.sizes a.losses.now) a.z.0 a.q.0 l.r a.count c.loop-r-test.false l.invariant.1
+    lost-end (farm_in a.farm) a.z.0 a.q.0 l.r a.count c.loop-r-test.false l.invariant

@@ -1,12 +1,8 @@
 -- `construction::sets::seats_outside` meets its contract.
 -- Assumes nothing.
 use mathlib.Core.Path.{◌≡◌}
-use Prim.Native.Nat.{◌-◌, ◌≤◌}
 use Rattle.farm.specs.Sets.{outside}
 use Rattle.construction.proofs.sets.seats_outside.Given as goal
 
 abbrev pub invariant-loop-q : goal.invariant-loop-q
-invariant-loop-q l = (l.q ≤ l.seats) × (l.out ≡ outside l.q l.set)
-
-abbrev pub decreases-loop-q : goal.decreases-loop-q
-decreases-loop-q l = l.seats - l.q
+invariant-loop-q l = l.out ≡ outside l.q l.set

@@ -5,14 +5,14 @@ use Rattle.std.proofs.Common.{◌∙◌, ap, ℕ, ◌+◌, ◌≤◌, arith, pos
 use mir.ValLaws.{to_z-of_z}
 use mir.Syntax.{w16}
 use Rattle.farm.specs.Sets.{size}
-use Rattle.viewing.specs.Counts.{farm_for}
+use Rattle.viewing.specs.Counts.{farm_in}
 use Rattle.construction.proofs.SettleSteps.{next-found, next-shrinks, next-is-less, settled_here, settled_on}
 use Rattle.construction.proofs.settled.+settle_from.Goals as goal
 
 pub returns-then-next-known : goal.returns-then-next-known
 returns-then-next-known t c =
     let a = c.args in
-    let farm = farm_for a.sizes a.losses.now in
+    let farm = farm_in a.farm in
     let p = c.requires in
     let core = c.core_view-core in
     let next = c.known_in-next in
@@ -26,11 +26,11 @@ returns-then-next-known t c =
 pub overflow_add-steps : goal.overflow_add-steps
 overflow_add-steps t c =
     let a = c.args in
-    let farm = farm_for a.sizes a.losses.now in
+    let farm = farm_in a.farm in
     let p = c.requires in
     let core = c.core_view-core in
     let next = c.known_in-next in
-    let room : a.steps + size a.sizes.seats a.known ≤ 255 = p.seats_le_most_seats.3 in
+    let room : a.steps + size a.farm.sizes.seats a.known ≤ 255 = p.seats_le_most_seats.3 in
     let less =
     next-is-less farm a.time.0 a.known next.result p.shrinks
     (next-found farm a.time.0 a.known core.result.of next.result p.seats_le_most_seats.0 core.ensures next.ensures) c.if-next-known.false
@@ -40,11 +40,11 @@ overflow_add-steps t c =
 pub settle_from-requires : goal.settle_from-requires
 settle_from-requires t c =
     let a = c.args in
-    let farm = farm_for a.sizes a.losses.now in
+    let farm = farm_in a.farm in
     let p = c.requires in
     let core = c.core_view-core in
     let next = c.known_in-next in
-    let room : a.steps + size a.sizes.seats a.known ≤ 255 = p.seats_le_most_seats.3 in
+    let room : a.steps + size a.farm.sizes.seats a.known ≤ 255 = p.seats_le_most_seats.3 in
     let found = next-found farm a.time.0 a.known core.result.of next.result p.seats_le_most_seats.0 core.ensures next.ensures in
     let less = next-is-less farm a.time.0 a.known next.result p.shrinks found c.if-next-known.false in (
       rw (← c.decreases) less,
@@ -57,7 +57,7 @@ settle_from-requires t c =
 pub returns : goal.returns
 returns t c =
     let a = c.args in
-    let farm = farm_for a.sizes a.losses.now in
+    let farm = farm_in a.farm in
     let p = c.requires in
     let core = c.core_view-core in
     let next = c.known_in-next in

@@ -4,4 +4,4 @@ use Rattle.farm.specs.Sets.{size}
 use Rattle.construction.proofs.settled.+settle_from.Given as goal
 
 abbrev pub decreases-settle_from : goal.decreases-settle_from
-decreases-settle_from l = size l.sizes.seats l.known
+decreases-settle_from l = size l.farm.sizes.seats l.known

@@ -3,7 +3,6 @@
 use mathlib.Core.Path.{sym, ◌∙◌}
 use native.Mathlib.Omega.{arith}
 use borrow.Author.Tests.{leb-true}
-use lib.ListN.{length-set}
 use Rattle.lines.specs.Lines.{header_line}
 use Rattle.text.specs.Words.{ascii, newline}
 use Rattle.lines.proofs.LineLaws.{header-text}
@@ -14,26 +13,6 @@ use Rattle.lines.proofs.printing.header_line.Goals as goal
 pub returns-then-not-has_room : goal.returns-then-not-has_room
 returns-then-not-has_room c =
     prints-nothing (header_line c.args.header) 0 c.args.out.now (sym c.has_room.ensures ∙ c.if-not-has_room.true)
-
-pub put_named-seats-requires : goal.put_named-seats-requires
-put_named-seats-requires c = let inside = leb-true _ _ (sym c.has_room.ensures ∙ c.if-not-has_room.false) in omega arith
-
-pub put_named-bound-requires : goal.put_named-bound-requires
-put_named-bound-requires c = let inside = leb-true _ _ (sym c.has_room.ensures ∙ c.if-not-has_room.false) in omega arith
-
-pub put_named-rounds-requires : goal.put_named-rounds-requires
-put_named-rounds-requires c = let inside = leb-true _ _ (sym c.has_room.ensures ∙ c.if-not-has_room.false) in omega arith
-
-pub put_named-edits-requires : goal.put_named-edits-requires
-put_named-edits-requires c = let inside = leb-true _ _ (sym c.has_room.ensures ∙ c.if-not-has_room.false) in omega arith
-
-pub bounds-out-edits : goal.bounds-out-edits
-bounds-out-edits c = let inside = leb-true _ _ (sym c.has_room.ensures ∙ c.if-not-has_room.false) in omega arith
-
-pub shape_of-out : goal.shape_of-out
-shape_of-out c =
-    simp length-set
-    (c.put_named-edits.auto.out ∙ c.put_named-rounds.auto.out ∙ c.put_named-bound.auto.out ∙ c.put_named-seats.auto.out)
 
 pub returns : goal.returns
 unfolding ascii

@@ -14,12 +14,6 @@ pub returns-then-not-has_room : goal.returns-then-not-has_room
 returns-then-not-has_room c =
     prints-nothing (over_line c.args.time c.args.seat c.args.loser) c.args.at c.args.out.now (sym c.has_room.ensures ∙ c.if-not-has_room.true)
 
-pub put_place-place-requires : goal.put_place-place-requires
-put_place-place-requires c = let inside = leb-true _ _ (sym c.has_room.ensures ∙ c.if-not-has_room.false) in omega arith
-
-pub put_word-requires : goal.put_word-requires
-put_word-requires c = let inside = leb-true _ _ (sym c.has_room.ensures ∙ c.if-not-has_room.false) in omega arith
-
 pub returns : goal.returns
 unfolding ascii
 returns c =

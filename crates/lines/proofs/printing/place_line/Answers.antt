@@ -3,7 +3,6 @@
 use mathlib.Core.Path.{sym, ◌∙◌}
 use native.Mathlib.Omega.{arith}
 use borrow.Author.Tests.{leb-true}
-use lib.ListN.{length-set}
 use mir.Syntax.{w16}
 use mir.Val.{SFits}
 use mir.ValLaws.{to_z-of_z}
@@ -18,37 +17,6 @@ pub returns-then-not-has_room : goal.returns-then-not-has_room
 returns-then-not-has_room c =
     prints-nothing (place_line c.args.line) c.args.at c.args.out.now (sym c.has_room.ensures ∙ c.if-not-has_room.true)
 
-pub put_place-place-requires : goal.put_place-place-requires
-put_place-place-requires c = let inside = leb-true _ _ (sym c.has_room.ensures ∙ c.if-not-has_room.false) in omega arith
-
-pub put_signed_field-critical-requires : goal.put_signed_field-critical-requires
-put_signed_field-critical-requires c = let inside = leb-true _ _ (sym c.has_room.ensures ∙ c.if-not-has_room.false) in omega arith
-
-pub put_field-steps-requires : goal.put_field-steps-requires
-put_field-steps-requires c = let inside = leb-true _ _ (sym c.has_room.ensures ∙ c.if-not-has_room.false) in omega arith
-
-pub put_core-numbers-requires : goal.put_core-numbers-requires
-put_core-numbers-requires c = let inside = leb-true _ _ (sym c.has_room.ensures ∙ c.if-not-has_room.false) in omega arith
-
-pub put_field-count-requires : goal.put_field-count-requires
-put_field-count-requires c = let inside = leb-true _ _ (sym c.has_room.ensures ∙ c.if-not-has_room.false) in omega arith
-
-pub bounds-out-count : goal.bounds-out-count
-bounds-out-count c = let inside = leb-true _ _ (sym c.has_room.ensures ∙ c.if-not-has_room.false) in omega arith
-
-pub overflow_add-result : goal.overflow_add-result
-overflow_add-result c = let inside = leb-true _ _ (sym c.has_room.ensures ∙ c.if-not-has_room.false) in record { fits = omega arith }
-
-pub shape_of-out : goal.shape_of-out
-shape_of-out c =
-    simp length-set
-    (c.put_field-count.auto.out
-    ∙ c.put_core-numbers.auto.out
-    ∙ c.put_field-steps.auto.out
-    ∙ c.put_signed_field-critical.auto.out
-    ∙ c.put_place-place.auto.out)
-
--- The critical time goes through a signed word and comes back.
 pub returns : goal.returns
 returns c =
     let room = sym c.has_room.ensures ∙ c.if-not-has_room.false in

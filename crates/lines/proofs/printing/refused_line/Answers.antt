@@ -3,7 +3,6 @@
 use mathlib.Core.Path.{sym, ◌∙◌}
 use native.Mathlib.Omega.{arith}
 use borrow.Author.Tests.{leb-true}
-use lib.ListN.{length-set}
 use Rattle.lines.specs.Lines.{refused_line}
 use Rattle.text.specs.Words.{ascii, newline}
 use Rattle.lines.proofs.LineLaws.{refused-text}
@@ -14,15 +13,6 @@ use Rattle.lines.proofs.printing.refused_line.Goals as goal
 pub returns-then-not-has_room : goal.returns-then-not-has_room
 returns-then-not-has_room c =
     prints-nothing (refused_line c.args.number) 0 c.args.out.now (sym c.has_room.ensures ∙ c.if-not-has_room.true)
-
-pub put_named-refused-requires : goal.put_named-refused-requires
-put_named-refused-requires c = let inside = leb-true _ _ (sym c.has_room.ensures ∙ c.if-not-has_room.false) in omega arith
-
-pub bounds-out-refused : goal.bounds-out-refused
-bounds-out-refused c = let inside = leb-true _ _ (sym c.has_room.ensures ∙ c.if-not-has_room.false) in omega arith
-
-pub shape_of-out : goal.shape_of-out
-shape_of-out c = simp length-set c.put_named-refused.auto.out
 
 pub returns : goal.returns
 unfolding ascii
