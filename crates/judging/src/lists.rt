@@ -1,12 +1,11 @@
 // Whether lists are a good record, before anything is written from them. Document 01's order decides:
 // 3 for the header's numbers, 10 for the lengths, 4 for every loss set, then edit by edit 3 and 5.
-ghost use Rattle.std.specs.Prelude.{◌≡◌, ◌<◌, length};
+ghost use Rattle.std.specs.Prelude.{◌≡◌, ◌<◌, None};
 ghost use Rattle.farm.specs.Limits.{limits};
-ghost use Rattle.record.specs.declared.edits.Before.TheVariants.{Nothing};
 ghost use Rattle.record.specs.Losses.{first_seat};
 ghost use Rattle.record.specs.Good.{good_header, sender_after, good_sets, good_edit};
-ghost use Rattle.record.specs.Tables.{edits_from};
-ghost use Rattle.record.specs.Writing.{fitting, judged_edits, judged_lists, lists_of};
+ghost use Rattle.record.specs.Writing.{header_from, edits_in, fitting, judged_edits};
+ghost use Rattle.record.specs.Lent.{tables_in, verdict_on};
 ghost use Rattle.record.specs.Answers.{judged_in};
 
 use farm::limits::{
@@ -14,55 +13,37 @@ use farm::limits::{
 };
 use farm::places::{Seat, Time};
 use farm::refusals::Refusal;
-use record::answers::Judged;
 use record::changes::map_change;
-use record::edits::{Before, Edit, comes_after};
+use record::edits::{Edit, comes_after};
+use record::lists::Lists;
 use record::losses::good_set;
 
-fn good_header(seats: u8, bound: u8, rounds: u16, edits: usize) -> bool
-    ensures { result ≡ good_header limits (record { seats = seats; bound = bound; rounds = rounds; edits = edits }) }
+#[tactic(auto, unfolding(record::specs::Good::good_header))]
+fn good_header(lists: Lists) -> bool
+    ensures { result ≡ good_header limits (header_from lists.entry.seats lists.entry.bound lists.entry.rounds (tables_in lists.entry)) }
 {
-    if (seats as u32) < FEWEST_SEATS {
-        return false;
-    }
-    if MOST_SEATS < seats as u32 {
-        return false;
-    }
-    if seats <= bound {
-        return false;
-    }
-    if MOST_ROUNDS < rounds as u32 {
-        return false;
-    }
-    edits <= MOST_EDITS as usize
+    let seats = lists.seats as u32;
+    FEWEST_SEATS <= seats
+        && seats <= MOST_SEATS
+        && lists.bound < lists.seats
+        && lists.rounds as u32 <= MOST_ROUNDS
+        && lists.editors.len() <= MOST_EDITS as usize
 }
 
 // Whether there is a loss set for each round and sender, and one of each field for every edit.
-fn lengths_fit<'a>(
-    seats: u8,
-    rounds: u16,
-    losses: &'a [u16],
-    editors: &'a [u8],
-    times: &'a [u16],
-    cells: &'a [u32],
-    changes: &'a [i16],
-) -> bool
-    ensures { result ≡ fitting seats rounds (lists_of losses.now editors.now times.now cells.now changes.now) }
+#[tactic(auto, unfolding(record::specs::Writing::fitting))]
+fn lengths_fit(lists: Lists) -> bool
+    ensures { result ≡ fitting lists.entry.seats lists.entry.rounds (tables_in lists.entry) }
 {
-    let edits = editors.len();
-    if losses.len() != seats as usize * rounds as usize {
-        return false;
-    }
-    if times.len() != edits {
-        return false;
-    }
-    if cells.len() != edits {
-        return false;
-    }
-    changes.len() == edits
+    let edits = lists.editors.len();
+    lists.losses.len() == lists.seats as usize * lists.rounds as usize
+        && lists.times.len() == edits
+        && lists.cells.len() == edits
+        && lists.changes.len() == edits
 }
 
 // After the last sender of a round comes the first one of the next.
+#[tactic(auto, unfolding(record::specs::Good::sender_after))]
 fn sender_after(seats: u8, sender: Seat) -> Seat
     requires { sender.0 < seats }
     ensures { result ≡ sender_after seats sender }
@@ -79,89 +60,65 @@ fn good_losses(seats: u8, losses: &[u16]) -> bool
     ensures { result ≡ good_sets seats first_seat losses.now }
 {
     let mut sender = Seat(0);
-    let mut i: usize = 0;
-    while i < losses.len() {
-        if !good_set(seats, sender, losses[i] as u32) {
+    for set in losses {
+        if !good_set(seats, sender, *set as u32) {
             return false;
         }
         sender = sender_after(seats, sender);
-        i += 1;
     }
     true
 }
 
+#[tactic(auto, unfolding(record::specs::Good::good_edit))]
 fn good_edit(seats: u8, rounds: u16, edit: Edit) -> bool
     requires { 0 < seats }
     ensures { result ≡ good_edit limits seats rounds edit }
 {
-    let seat = edit.seat.0;
-    let time = edit.time.0;
-    if seats <= seat {
-        return false;
-    }
-    if rounds < time {
-        return false;
-    }
-    if LARGEST_CELL < edit.cell {
-        return false;
-    }
-    map_change(edit.change) as u32 <= LARGEST_MAPPED_CHANGE
+    edit.seat.0 < seats
+        && edit.time.0 <= rounds
+        && edit.cell <= LARGEST_CELL
+        && map_change(edit.change) as u32 <= LARGEST_MAPPED_CHANGE
 }
 
 // Edit by edit: its fields first, then whether it comes after the one before.
-fn judge_edits<'a>(
-    seats: u8,
-    rounds: u16,
-    editors: &'a [u8],
-    times: &'a [u16],
-    cells: &'a [u32],
-    changes: &'a [i16],
-) -> Judged
-    requires { (0 < seats) × (length times.now ≡ length editors.now) × (length cells.now ≡ length editors.now) × (length changes.now ≡ length editors.now) }
-    ensures { result ≡ judged_in (judged_edits limits seats rounds Nothing (edits_from editors.now times.now cells.now changes.now)) }
+fn judge_edits(lists: Lists) -> Result<(), Refusal>
+    requires { 0 < lists.seats }
+    ensures { result ≡ judged_in (judged_edits limits lists.entry.seats lists.entry.rounds None (edits_in (tables_in lists.entry))) }
 {
-    let mut before = Before::Nothing;
-    let mut i: usize = 0;
-    while i < editors.len() {
+    let mut before = None;
+    let places = lists.editors.iter().zip(lists.times);
+    let changes = lists.cells.iter().zip(lists.changes);
+    for ((seat, time), (cell, change)) in places.zip(changes) {
         let edit = Edit {
-            seat: Seat(editors[i]),
-            time: Time(times[i]),
-            cell: cells[i],
-            change: changes[i],
+            seat: Seat(*seat),
+            time: Time(*time),
+            cell: *cell,
+            change: *change,
         };
-        if !good_edit(seats, rounds, edit) {
-            return Judged::Refused(Refusal::OutOfRange);
+        if !good_edit(lists.seats, lists.rounds, edit) {
+            return Err(Refusal::OutOfRange);
         }
         if !comes_after(before, edit) {
-            return Judged::Refused(Refusal::BadOrder);
+            return Err(Refusal::BadOrder);
         }
-        before = Before::This(edit);
-        i += 1;
+        before = Some(edit);
     }
-    Judged::Accepted
+    Ok(())
 }
 
 // Whether the lists are a good record, and if not, the one refusal that the order decides.
-pub fn judge<'a>(
-    seats: u8,
-    bound: u8,
-    rounds: u16,
-    losses: &'a [u16],
-    editors: &'a [u8],
-    times: &'a [u16],
-    cells: &'a [u32],
-    changes: &'a [i16],
-) -> Judged
-    ensures { result ≡ judged_in (judged_lists limits seats bound rounds (lists_of losses.now editors.now times.now cells.now changes.now)) }
+#[tactic(auto, unfolding(record::specs::Answers::judged_in, record::specs::Writing::judged_lists, record::specs::Writing::unless, record::specs::Good::good_header))]
+pub fn judge(lists: Lists) -> Result<(), Refusal>
+    ensures { result ≡ judged_in (verdict_on lists.entry) }
 {
-    if !good_header(seats, bound, rounds, editors.len()) {
-        return Judged::Refused(Refusal::OutOfRange);
+    if !good_header(lists) {
+        return Err(Refusal::OutOfRange);
     }
-    if !lengths_fit(seats, rounds, losses, editors, times, cells, changes) {
-        return Judged::Refused(Refusal::BadLengths);
+    if !lengths_fit(lists) {
+        return Err(Refusal::BadLengths);
     }
-    if !good_losses(seats, losses) {
-        return Judged::Refused(Refusal::BadLossSet);
+    if !good_losses(lists.seats, lists.losses) {
+        return Err(Refusal::BadLossSet);
     }
-    judge_edits(seats, rounds, editors, times, cells, changes)
+    judge_edits(lists)
 }

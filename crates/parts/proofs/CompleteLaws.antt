@@ -1,24 +1,12 @@
 -- Every public function of the crate states its outcome completely.
 -- Assumes nothing.
 use Rattle.farm.proofs.Complete.{Complete, by-facts}
-use Rattle.parts.specs.contracts.answers.passed_refusal as passed-refusal
-use Rattle.parts.specs.contracts.answers.header_refusal as header-refusal
-use Rattle.parts.specs.contracts.answers.edit_refusal as edit-refusal
 use Rattle.parts.specs.contracts.header_reader.read_header as read-header
 use Rattle.parts.specs.contracts.edit_reader.read_edit as read-edit
 use Rattle.parts.specs.contracts.edit_reader.check_edits as check-edits
 use Rattle.parts.specs.contracts.loss_reader.read_set as read_set
 use Rattle.parts.specs.contracts.loss_reader.check_round as check-round
 use Rattle.parts.specs.contracts.loss_reader.check_losses as check-losses
-
-pub passed-refusal-complete : Complete passed-refusal.ended (λ M 𝓤. passed-refusal.clauses {M = M} {𝓤 = 𝓤})
-passed-refusal-complete M 𝓤 𝓛 mem run κs a g r s v w = by-facts M 𝓤 _ _ _ (λ p q. (cc, cc))
-
-pub header-refusal-complete : Complete header-refusal.ended (λ M 𝓤. header-refusal.clauses {M = M} {𝓤 = 𝓤})
-header-refusal-complete M 𝓤 𝓛 mem run κs a g r s v w = by-facts M 𝓤 _ _ _ (λ p q. (cc, cc))
-
-pub edit-refusal-complete : Complete edit-refusal.ended (λ M 𝓤. edit-refusal.clauses {M = M} {𝓤 = 𝓤})
-edit-refusal-complete M 𝓤 𝓛 mem run κs a g r s v w = by-facts M 𝓤 _ _ _ (λ p q. (cc, cc))
 
 pub read-header-complete : Complete read-header.ended (λ M 𝓤. read-header.clauses {M = M} {𝓤 = 𝓤})
 read-header-complete M 𝓤 𝓛 mem run κs a g r s v w = by-facts M 𝓤 _ _ _ (λ p q. (cc, cc))

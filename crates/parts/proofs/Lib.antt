@@ -1,4 +1,3 @@
-pub mod PassedLaws
 pub mod LossSteps
 pub mod EditSteps
 pub mod CompleteLaws

@@ -31,11 +31,11 @@ use Rattle.record.proofs.LengthLaws.{record-length, record-most, sets-length, ed
 pub answer-accepted : (v : Verdict) → judged_in v ≡ Ok tt → v ≡ accepted
 unfolding judged_in
 answer-accepted accepted e = refl
-answer-accepted (faulty r) e = let z : ◌≡◌ {A = ℕ} 0 1 = cc in absurd (omega arith)
+answer-accepted (faulty r) e = cc
 
 pub answer-refused : (v : Verdict) (r : Refusal) → judged_in v ≡ Err r → v ≡ faulty r
 unfolding judged_in
-answer-refused accepted r e = let z : ◌≡◌ {A = ℕ} 0 1 = cc in absurd (omega arith)
+answer-refused accepted r e = cc
 answer-refused (faulty q) r e = let same : q ≡ r = cc in ap faulty same
 
 -- ════ Accepted lists ════

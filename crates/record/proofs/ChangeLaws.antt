@@ -1,16 +1,16 @@
 -- A change and its number, both ways; and the signed arithmetic of the code, at 16 bits.
 -- Assumes nothing.
-use mathlib.Core.Path.{◌≡◌, refl, sym, ◌∙◌, ap}
+use mathlib.Core.Path.{◌≡◌, refl, ◌∙◌, ap}
 use mathlib.Core.Bool.{true, false, true≢false}
-use Prim.Native.Nat.{ℕ, zero, suc, ◌-◌, ◌*◌, ◌/◌, ◌%◌, ◌^◌, ◌<◌}
+use Prim.Native.Nat.{ℕ, zero, suc, ◌+◌, ◌-◌, ◌*◌, ◌/◌, ◌%◌, ◌^◌, ◌<◌}
 use native.Mathlib.Nat.{zero-add, not-suc-le-zero}
 use native.Mathlib.Omega.{arith}
-use lib.IntN.{ℤ, pos, negsuc, ◌-ℤ◌}
+use lib.IntN.{ℤ, pos, negsuc, ◌-ℤ◌, nat_abs}
 use lib.Signed.{lt_z}
 use mir.Syntax.{w16}
 use mir.Val.{SFits, to_z, of_z}
 use mir.ValLaws.{to_z_pos, to_z-of_z}
-use borrow.Author.Tests.{eq-eqb, ne_eqb, le-ltb, ltb-true}
+use borrow.Author.Tests.{eq-eqb, ne_eqb, ltb-true}
 use Rattle.record.specs.Changes.{mapped, unmapped}
 
 -- ════ Both ways ════
@@ -42,34 +42,23 @@ pub minus-one-minus-pos : (h : ℕ) → negsuc 0 -ℤ pos h ≡ negsuc h
 minus-one-minus-pos zero = refl
 minus-one-minus-pos (suc h) = ap (λ (k : ℕ). negsuc (suc k)) (zero-add h)
 
-pub minus-one-minus-negsuc : (k : ℕ) → negsuc 0 -ℤ negsuc k ≡ pos k
-minus-one-minus-negsuc k = rw (le-ltb (suc k) 1 (omega arith)) (ap pos (omega arith))
+-- A change and its size, as the code has them.
+module _ (z : ℤ) (fits : SFits w16 z) (size : ℕ) (is : size ≡ nat_abs (to_z w16 (of_z w16 z))) where
+  pub below-mapped : lt_z (to_z w16 (of_z w16 z)) (pos 0) ≡ true → 2 * (size - 1) + 1 ≡ mapped z
+  unfolding mapped
+  below-mapped e = by z (is ∙ ap nat_abs (to_z-of_z w16 z fits)) (rw (to_z-of_z w16 z fits) at e)
+    where
+      by : (y : ℤ) → size ≡ nat_abs y → lt_z y (pos 0) ≡ true → 2 * (size - 1) + 1 ≡ mapped y
+      by (pos n) s f = absurd (not-suc-le-zero (ltb-true n 0 f))
+      by (negsuc k) s f = rw s (omega arith)
 
--- A change below zero, and one that is not, as the code's test tells them apart.
-pub record Below (z : ℤ) : Type 0 where
-  pub k : ℕ
-  pub is : z ≡ negsuc k
-  pub less : negsuc 0 -ℤ to_z w16 (of_z w16 z) ≡ pos k
-  pub kept : to_z w16 (of_z w16 (negsuc 0 -ℤ to_z w16 (of_z w16 z))) ≡ pos k
-  pub small : k < 2 ^ 15
-
-pub below-zero : (z : ℤ) → SFits w16 z → lt_z (to_z w16 (of_z w16 z)) (pos 0) ≡ true → Below z
-below-zero (pos n) f e =
-    let l : n < 0 = ltb-true n 0 (sym (ap (λ (y : ℤ). lt_z y (pos 0)) (to_z-of_z w16 (pos n) f)) ∙ e) in
-    absurd (not-suc-le-zero l)
-below-zero (negsuc k) f e =
-    let less : negsuc 0 -ℤ to_z w16 (of_z w16 (negsuc k)) ≡ pos k = rw (to_z-of_z w16 (negsuc k) f) (minus-one-minus-negsuc k) in
-    record { k = k; is = refl; less = less; kept = ap (λ (y : ℤ). to_z w16 (of_z w16 y)) less ∙ to_z_pos w16 k f.sfits; small = f.sfits }
-
-pub record Above (z : ℤ) : Type 0 where
-  pub k : ℕ
-  pub is : z ≡ pos k
-  pub kept : to_z w16 (of_z w16 z) ≡ pos k
-  pub small : k < 2 ^ 15
-
-pub not-below-zero : (z : ℤ) → SFits w16 z → lt_z (to_z w16 (of_z w16 z)) (pos 0) ≡ false → Above z
-not-below-zero (pos n) f e = record { k = n; is = refl; kept = to_z-of_z w16 (pos n) f; small = f.sfits }
-not-below-zero (negsuc k) f e = absurd (true≢false (sym (ap (λ (y : ℤ). lt_z y (pos 0)) (to_z-of_z w16 (negsuc k) f)) ∙ e))
+  pub above-mapped : lt_z (to_z w16 (of_z w16 z)) (pos 0) ≡ false → 2 * size ≡ mapped z
+  unfolding mapped
+  above-mapped e = by z (is ∙ ap nat_abs (to_z-of_z w16 z fits)) (rw (to_z-of_z w16 z fits) at e)
+    where
+      by : (y : ℤ) → size ≡ nat_abs y → lt_z y (pos 0) ≡ false → 2 * size ≡ mapped y
+      by (pos n) s f = rw s refl
+      by (negsuc k) s f = absurd (true≢false f)
 
 -- A half of 16 bits is its own signed number, and so is what lies as far below −1.
 pub half-kept : (n : ℕ) → n < 2 ^ 16 → to_z w16 (n / 2) ≡ pos (n / 2)

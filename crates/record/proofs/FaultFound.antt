@@ -361,7 +361,7 @@ module _ (L : Limits) (wide : Wide L) (bytes : List ℕ) where
   refused-fault r h e = by (take_record L bytes) refl e
     where
       by : (t : Taken Record) → take_record L bytes ≡ t → whole t ≡ bad r → Fault L bytes r
-      by (value x []) s f = let z : ◌≡◌ {A = ℕ} 0 1 = cc in absurd (omega arith)
+      by (value x []) s f = cc
       by (value x (b ∷ rest)) s f =
           let a = record-again L bytes x (b ∷ rest) h s in
           let same : BytesLeft ≡ r = cc in

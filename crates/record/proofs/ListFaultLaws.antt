@@ -5,7 +5,6 @@ use mathlib.Core.Logic.{◌⊎◌, inl, inr, ⊎_elim}
 use mathlib.Core.Bool.{Bool, true, false}
 use mathlib.Core.List.{List, [], ◌∷◌, ◌++◌}
 use Prim.Native.Nat.{ℕ}
-use native.Mathlib.Omega.{arith}
 use Rattle.std.specs.Prelude.{Option, None, Some}
 use Rattle.farm.specs.Limits.{Limits}
 use Rattle.farm.specs.declared.refusals.Refusal.{Refusal}
@@ -47,7 +46,7 @@ record EditFault (L : Limits) (n R : ℕ) (before : Option Edit) (edits : List E
 edits-faulty : (L : Limits) (n R : ℕ) (before : Option Edit) (edits : List Edit) (f : Refusal) → judged_edits L n R before edits ≡ faulty f
     → EditFault L n R before edits f
 unfolding judged_edits good_edits last_of
-edits-faulty L n R before [] f e = let z : ◌≡◌ {A = ℕ} 0 1 = cc in absurd (omega arith)
+edits-faulty L n R before [] f e = cc
 edits-faulty L n R before (edit ∷ edits) f e =
     by (edits-faulty L n R (Some edit) edits f) (unless-faulty (good_edit L n R edit) OutOfRange _ f e)
   where

@@ -5,6 +5,8 @@ use mathlib.Core.Logic.{◌⊎◌, inl, inr}
 use mathlib.Core.Bool.{Bool, true, false}
 use mathlib.Core.List.{List}
 use Prim.Native.Nat.{ℕ}
+use Rattle.std.specs.Prelude.{Result, Ok, Err}
+use Rattle.std.specs.Result.{IsErrAnd}
 use Rattle.farm.specs.declared.refusals.Refusal.{Refusal}
 use Rattle.record.specs.Taking.{Taken, value, refused, ◌>>=◌, when}
 
@@ -19,3 +21,8 @@ pub when-refused : {A : Type 0} (test : Bool) (r : Refusal) (t : Taken A) (s : R
 unfolding when
 when-refused true r t s e = inr (refl, e)
 when-refused false r t s e = inl (refl, (cc))
+
+-- A refusal that the code hands up is the answer.
+pub handed_up : {A : Type 0} (answer : Result A Refusal) (r : Refusal) → IsErrAnd answer (λ x. x ≡ r) → answer ≡ Err r
+handed_up (Ok a) r h = absurd h
+handed_up (Err x) r h = ap Err h

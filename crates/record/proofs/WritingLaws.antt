@@ -36,7 +36,7 @@ unless-accepted false r later e = absurd (accepted-not-faulty r e)
 pub judged-good : (x : Record) (v : Verdict) (r : Record) → judged x v ≡ good r → (v ≡ accepted) × (x ≡ r)
 unfolding judged
 judged-good x accepted r e = (refl, (cc))
-judged-good x (faulty f) r e = let z : ◌≡◌ {A = ℕ} 0 1 = cc in absurd (omega arith)
+judged-good x (faulty f) r e = cc
 
 -- ════ Edits ════
 
@@ -149,7 +149,7 @@ unfolding answered buffer_with
 refused-leaves L (good r) old f e = by (leb (length (bytes_of L r)) (length old)) _ e
   where
     by : (t : Bool) (new : List ℕ) → cond t (count (length (bytes_of L r))) (unwritten NoRoom) ≡ unwritten f → cond t new old ≡ old
-    by true new g = let z : ◌≡◌ {A = ℕ} 0 1 = cc in absurd (omega arith)
+    by true new g = cc
     by false new g = refl
 refused-leaves L (bad g) old f e = refl
 
@@ -168,8 +168,8 @@ counted L (good r) old k e = by (leb (length (bytes_of L r)) (length old)) refl 
     by : (t : Bool) → leb (length (bytes_of L r)) (length old) ≡ t
         → cond t (count (length (bytes_of L r))) (unwritten NoRoom) ≡ count k → Counted L (good r) old k
     by true fits f = record { written = r; sound = refl; long = (cc); fits = leb-true (length (bytes_of L r)) (length old) fits; buffer = rw fits }
-    by false fits f = let z : ◌≡◌ {A = ℕ} 0 1 = cc in absurd (omega arith)
-counted L (bad f) old k e = let z : ◌≡◌ {A = ℕ} 0 1 = cc in absurd (omega arith)
+    by false fits f = cc
+counted L (bad f) old k e = cc
 
 pub take_counted : (L : Limits) (x : Reading) (old : List ℕ) (k : ℕ) (c : Counted L x old k) → take k (buffer_with L x old) ≡ bytes_of L c.written
 take_counted L x old k c = ap (take k) c.buffer ∙ take-over (bytes_of L c.written) old k (sym c.long)

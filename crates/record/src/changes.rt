@@ -5,11 +5,11 @@ ghost use Rattle.record.specs.Changes.{mapped, unmapped};
 pub fn map_change(change: i16) -> u16
     ensures { result ≡ mapped change }
 {
+    let size = change.unsigned_abs();
     if change < 0 {
-        let below = (-1 - change) as u16;
-        return 2 * below + 1;
+        return 2 * (size - 1) + 1;
     }
-    2 * (change as u16)
+    2 * size
 }
 
 pub fn unmap_change(number: u16) -> i16

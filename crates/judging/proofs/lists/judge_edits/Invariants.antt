@@ -1,19 +1,16 @@
--- `judging::lists::judge_edits` meets its contract. The loop's invariant: all the edits are judged as what is left of them is, after the last one.
--- Assumes nothing.
 use mathlib.Core.Path.{◌≡◌}
-use Prim.Native.Nat.{◌-◌}
-use lib.ListN.{length}
+use Rattle.std.specs.Prelude.{None}
 use Rattle.farm.specs.Limits.{limits}
-use Rattle.record.specs.Writing.{judged_edits}
-use Rattle.record.specs.Tables.{edits_from}
-use Rattle.record.specs.declared.edits.Before.TheVariants.{Nothing}
-use Rattle.judging.proofs.JudgingLaws.{edits_after}
+use Rattle.record.specs.Writing.{edits_in, judged_edits}
+use Rattle.record.specs.Lent.{tables_in}
+use Rattle.judging.proofs.EditZipLaws.{edits_left}
 use Rattle.judging.proofs.lists.judge_edits.Given as goal
 
-abbrev pub invariant-loop-i : goal.invariant-loop-i
-invariant-loop-i l =
-    judged_edits limits l.seats l.rounds l.before (edits_after l.i l.editors l.times l.cells l.changes)
-    ≡ judged_edits limits l.seats l.rounds Nothing (edits_from l.editors l.times l.cells l.changes)
-
-abbrev pub decreases-loop-i : goal.decreases-loop-i
-decreases-loop-i l = length l.editors - l.i
+abbrev pub invariant-loop-seat : goal.invariant-loop-seat
+invariant-loop-seat l = record {
+  ready : (goal.iterator-loop-seat).can_next l.seat-iterator;
+  ends : (goal.iterator-loop-seat).is_finite l.seat-iterator;
+  left :
+      judged_edits limits l.lists.seats l.lists.rounds l.before (edits_left l.seat-iterator)
+      ≡ judged_edits limits l.lists.seats l.lists.rounds None (edits_in (tables_in l.lists));
+}

@@ -1,60 +1,46 @@
 -- `parts::edit_reader::check_edits` meets its contract. The loop's invariant: all edits end as what is left of them does, after the last one read.
 -- Assumes nothing.
-use Rattle.parts.proofs.EditSteps.{edit-was, edit-was-refused, edits-on, edits-stop, edits-disorder, edits-end}
+use Rattle.parts.proofs.EditSteps.{edit-was, edits-on, edits-stop, edits-disorder, edits-end}
+use Rattle.numbers.proofs.CursorLaws.{read-was-refused}
 use Rattle.farm.specs.Limits.{limits}
-use native.Mathlib.Omega.{arith}
-use native.Mathlib.Nat.{sub-zero}
-use mathlib.Core.Path.{sym, ◌∙◌}
+use Rattle.std.proofs.lemmas.Result.{err_from_is_err_and}
+use Rattle.std.proofs.Common.{sym, ◌∙◌}
 use Rattle.parts.proofs.edit_reader.check_edits.Goals as goal
 
-pub loop-done-init : goal.loop-done-init
-loop-done-init c = (omega arith, omega arith, rw sub-zero)
-
-pub edit_refusal-requires : goal.edit_refusal-requires
-edit_refusal-requires c = tt
-
-pub returns-in_default : goal.returns-in_default
-returns-in_default c =
+pub returns-in_err-edit : goal.returns-in_err-edit
+returns-in_err-edit c =
     let a = c.args in
-    let l = c.loop-done in
+    let l = c.loop in
     let bytes = a.bytes.now in
-    sym (edits-stop limits bytes a.seats a.rounds a.edits l.done l.before _ c.loop-done-test.true _
-    (edit-was-refused bytes _ _ _ _ c.read_edit-read.ensures c.edit_refusal.ensures c.in_default.is))
-    ∙ l.invariant.2
-
-pub comes_after-requires : goal.comes_after-requires
-comes_after-requires c = tt
+    let p = err_from_is_err_and c.from_residual.result c.from_residual.ensures.1 in
+    rw (p.1, p.2)
+    (sym (edits-stop limits bytes a.seats a.rounds a.edits l.counter l.before _ c.loop-test.true _
+    (read-was-refused bytes _ _ (sym c.read_edit.ensures ∙ c.in_err-edit.was)))
+    ∙ l.invariant.1)
 
 pub returns-then-not-comes_after : goal.returns-then-not-comes_after
 returns-then-not-comes_after c =
     let a = c.args in
-    let l = c.loop-done in
+    let l = c.loop in
     let bytes = a.bytes.now in
-    let was = edit-was a.seats a.rounds bytes l.at _ _ _ c.read_edit-read.ensures c.in-Edit.is in
-    sym (edits-disorder limits bytes a.seats a.rounds a.edits l.done l.before _ c.loop-done-test.true _ _
+    let was = edit-was a.seats a.rounds bytes l.at.at _ _ (sym c.read_edit.ensures ∙ c.in_ok-edit.was) in
+    sym (edits-disorder limits bytes a.seats a.rounds a.edits l.counter l.before _ c.loop-test.true _ _
     was.took (sym c.comes_after.ensures ∙ c.if-not-comes_after.true))
-    ∙ l.invariant.2
+    ∙ l.invariant.1
 
-pub overflow_add-done : goal.overflow_add-done
-overflow_add-done c = omega arith
-
-pub loop-done-smaller : goal.loop-done-smaller
-loop-done-smaller c = omega arith
-
-pub loop-done-preserved : goal.loop-done-preserved
-loop-done-preserved c =
+pub loop-preserved : goal.loop-preserved
+loop-preserved c =
     let a = c.args in
-    let l = c.loop-done in
+    let l = c.loop in
     let bytes = a.bytes.now in
-    let was = edit-was a.seats a.rounds bytes l.at _ _ _ c.read_edit-read.ensures c.in-Edit.is in (
-      omega (arith, c.loop-done-test.true),
+    let was = edit-was a.seats a.rounds bytes l.at.at _ _ (sym c.read_edit.ensures ∙ c.in_ok-edit.was) in (
       was.inside,
-      edits-on limits bytes a.seats a.rounds a.edits l.done l.before _ c.loop-done-test.true _ _
-          was.took (sym c.comes_after.ensures ∙ c.if-not-comes_after.false) ∙ l.invariant.2,
+      edits-on limits bytes a.seats a.rounds a.edits l.counter l.before _ c.loop-test.true _ _
+          was.took (sym c.comes_after.ensures ∙ c.if-not-comes_after.false) ∙ l.invariant.1,
     )
 
 pub returns : goal.returns
 returns c =
     let a = c.args in
-    let l = c.loop-done in
-    sym (edits-end limits a.bytes.now a.seats a.rounds a.edits l.done l.before l.at c.loop-done-test.false l.invariant.1) ∙ l.invariant.2
+    let l = c.loop in
+    sym (edits-end limits a.bytes.now a.seats a.rounds a.edits l.counter l.before l.at.at c.loop-test.false l.invariant.0) ∙ l.invariant.1
