@@ -7,29 +7,23 @@ use native.Mathlib.Nat.{le_refl}
 use native.Mathlib.Omega.{arith}
 use lib.ListN.{length, take, drop, length-drop, drop_of_length-le}
 use lib.Seq.{take_all}
+use Rattle.std.specs.Prelude.{Ok, None}
 use Rattle.farm.specs.Limits.{Limits, limits}
 use Rattle.farm.specs.Sets.{Seats}
 use Rattle.farm.specs.declared.refusals.Refusal.{Refusal}
 use Rattle.farm.specs.declared.refusals.Refusal.TheVariants.{BytesLeft}
 use Rattle.numbers.specs.declared.read.Cursor.{Cursor}
-use Rattle.parts.specs.declared.answers.Passed.{Passed}
-use Rattle.parts.specs.declared.answers.Passed.TheVariants.{To, Refused as PassedRefused}
 use Rattle.record.specs.declared.header.Header.{Header}
-use Rattle.parts.specs.declared.answers.HeaderRead.{HeaderRead}
-use Rattle.parts.specs.declared.answers.HeaderRead.TheVariants.{Header as HeaderFound, Refused as HeaderRefused}
 use Rattle.record.specs.declared.edits.Edit.{Edit}
-use Rattle.record.specs.declared.edits.Before.TheVariants.{Nothing}
 use Rattle.record.specs.Taking.{Taken, value, refused, ◌>>=◌}
 use Rattle.record.specs.Header.{take_header}
 use Rattle.record.specs.Losses.{take_rounds}
 use Rattle.record.specs.Edits.{take_edits}
 use Rattle.record.specs.Record.{good, bad, take_record, whole, reading_of}
-use Rattle.numbers.specs.Cursors.{cursor_at}
-use Rattle.parts.specs.Parts.{header_in, header_refusal_in, passed_in, passed_refusal_in}
+use Rattle.numbers.specs.Cursors.{read_in, passed_in}
 use Rattle.record.proofs.TakingLaws.{Tail}
 use Rattle.record.proofs.NumberLaws.{within-value}
-use Rattle.numbers.proofs.CursorLaws.{placed}
-use Rattle.parts.proofs.PassedLaws.{passed-was, passed-was-refused, passed-refusal-passed}
+use Rattle.numbers.proofs.CursorLaws.{read-was, passed-was}
 use Rattle.record.proofs.HeaderLaws.{header-took, header-tail}
 use Rattle.record.proofs.LossLaws.{rounds-tail}
 use Rattle.record.proofs.EditLaws.{edits-tail}
@@ -47,19 +41,19 @@ module _ (L : Limits) (bytes : List ℕ) where
     reading-no-losses r e = rw (header, e)
 
     module _ (sets : List Seats) (after-losses : List ℕ) (losses : take_rounds L h.seats h.rounds after-header ≡ value sets after-losses) where
-      pub reading-no-edits : (r : Refusal) → take_edits L h.seats h.rounds h.edits Nothing after-losses ≡ refused r
+      pub reading-no-edits : (r : Refusal) → take_edits L h.seats h.rounds h.edits None after-losses ≡ refused r
           → reading_of L bytes ≡ bad r
       unfolding reading_of take_record whole ◌>>=◌
       reading-no-edits r e = rw (header, losses, e)
 
       module _ (es : List Edit) where
         pub reading-left : (b : ℕ) (rest : List ℕ)
-            → take_edits L h.seats h.rounds h.edits Nothing after-losses ≡ value es (b ∷ rest)
+            → take_edits L h.seats h.rounds h.edits None after-losses ≡ value es (b ∷ rest)
             → reading_of L bytes ≡ bad BytesLeft
         unfolding reading_of take_record whole ◌>>=◌
         reading-left b rest e = rw (header, losses, e)
 
-        pub reading-good : take_edits L h.seats h.rounds h.edits Nothing after-losses ≡ value es []
+        pub reading-good : take_edits L h.seats h.rounds h.edits None after-losses ≡ value es []
             → reading_of L bytes ≡ good (record { header = h; losses = sets; edits = es })
         unfolding reading_of take_record whole ◌>>=◌
         reading-good e = rw (header, losses, e)
@@ -73,12 +67,6 @@ from at bytes = take (length bytes - at) (drop at bytes)
 pub from_is : (at : ℕ) (bytes : List ℕ) → from at bytes ≡ drop at bytes
 from_is at bytes = take_all (length bytes - at) (drop at bytes) (rw length-drop (le_refl (length bytes - at)))
 
-pub header-was-refused : (bytes : List ℕ) (t : Taken Header) (read : HeaderRead) (r x : Refusal) → read ≡ header_in bytes t
-    → r ≡ header_refusal_in read → read ≡ HeaderRefused x → t ≡ refused r
-unfolding header_in
-header-was-refused bytes (value e rest) read r x p q f = let z : ◌≡◌ {A = ℕ} 0 1 = cc in absurd (omega arith)
-header-was-refused bytes (refused s) read r x p q f = let same : s ≡ x = cc in ap refused (same ∙ sym (q ∙ ap header_refusal_in f))
-
 pub record Head (bytes : List ℕ) (h : Header) (at : ℕ) : Type 0 where
   pub took : take_header limits bytes ≡ value h (from at bytes)
   pub inside : at ≤ length bytes
@@ -88,31 +76,23 @@ pub record Head (bytes : List ℕ) (h : Header) (at : ℕ) : Type 0 where
   pub rounds : h.rounds ≤ 127
   pub edits : h.edits ≤ 512
 
-pub header-was : (bytes : List ℕ) (read : HeaderRead) (h : Header) (next : Cursor) → read ≡ header_in bytes (take_header limits bytes)
-    → read ≡ HeaderFound h next → Head bytes h next.at
-unfolding header_in
-header-was bytes read h next p q = by (take_header limits bytes) refl (sym p ∙ q)
-  where
-    by : (t : Taken Header) → take_header limits bytes ≡ t → header_in bytes t ≡ HeaderFound h next → Head bytes h next.at
-    by (value w rest) e f =
-        let same : w ≡ h = cc in
-        let place : cursor_at bytes rest ≡ next = cc in
-        let was = placed bytes w rest next.at (header-tail limits bytes w rest e) (ap (λ (c : Cursor). c.at) place) in
-        let parts = header-took limits bytes h rest (e ∙ ap (λ (x : Header). value x rest) same) in
-        let n = within-value limits _ _ _ _ _ parts.n in
-        let t = within-value limits _ _ _ _ _ parts.t in
-        let R = within-value limits _ _ _ _ _ parts.R in
-        let E = within-value limits _ _ _ _ _ parts.E in
-        record {
-          took = e ∙ was.took ∙ ap (value w) (sym (from_is next.at bytes)) ∙ ap (λ (x : Header). value x (from next.at bytes)) same;
-          inside = was.inside;
-          some = n.1;
-          few = n.2;
-          bound = t.2;
-          rounds = R.2;
-          edits = E.2;
-        }
-    by (refused r) e f = let z : ◌≡◌ {A = ℕ} 0 1 = cc in absurd (omega arith)
+pub header-was : (bytes : List ℕ) (h : Header) (next : Cursor) → Ok (h, next) ≡ read_in bytes (take_header limits bytes) → Head bytes h next.at
+header-was bytes h next e =
+    let was = read-was bytes (take_header limits bytes) h next (header-tail limits bytes) (sym e) in
+    let parts = header-took limits bytes h _ was.took in
+    let n = within-value limits _ _ _ _ _ parts.n in
+    let t = within-value limits _ _ _ _ _ parts.t in
+    let R = within-value limits _ _ _ _ _ parts.R in
+    let E = within-value limits _ _ _ _ _ parts.E in
+    record {
+      took = was.took ∙ ap (value h) (sym (from_is next.at bytes));
+      inside = was.inside;
+      some = n.1;
+      few = n.2;
+      bound = t.2;
+      rounds = R.2;
+      edits = E.2;
+    }
 
 -- A part that was looked through to its end.
 pub record Looked {A : Type 0} (bytes : List ℕ) (t : Taken A) (at : ℕ) : Type 0 where
@@ -120,23 +100,19 @@ pub record Looked {A : Type 0} (bytes : List ℕ) (t : Taken A) (at : ℕ) : Typ
   pub took : t ≡ value what (from at bytes)
   pub inside : at ≤ length bytes
 
-looked : {A : Type 0} (bytes : List ℕ) (t : Taken A) (passed : Passed) (next : Cursor) → ((a : A) (rest : List ℕ) → t ≡ value a rest → Tail rest bytes)
-    → passed ≡ passed_in bytes t → passed ≡ To next → Looked bytes t next.at
-looked bytes t passed next tail p q =
-    let was = passed-was bytes t next tail (sym p ∙ q) in
+looked : {A : Type 0} (bytes : List ℕ) (t : Taken A) (next : Cursor) → ((a : A) (rest : List ℕ) → t ≡ value a rest → Tail rest bytes)
+    → Ok next ≡ passed_in bytes t → Looked bytes t next.at
+looked bytes t next tail e =
+    let was = passed-was bytes t next tail (sym e) in
     record { what = was.0; took = was.1.took ∙ ap (value was.0) (sym (from_is next.at bytes)); inside = was.1.inside }
 
-pub losses-looked : (n R : ℕ) (bytes : List ℕ) (passed : Passed) (next : Cursor) → passed ≡ passed_in bytes (take_rounds limits n R bytes)
-    → passed ≡ To next → Looked bytes (take_rounds limits n R bytes) next.at
-losses-looked n R bytes passed next p q = looked bytes _ passed next (rounds-tail limits n R bytes) p q
+pub losses-looked : (n R : ℕ) (bytes : List ℕ) (next : Cursor) → Ok next ≡ passed_in bytes (take_rounds limits n R bytes)
+    → Looked bytes (take_rounds limits n R bytes) next.at
+losses-looked n R bytes next e = looked bytes _ next (rounds-tail limits n R bytes) e
 
-pub edits-looked : (n R E : ℕ) (bytes : List ℕ) (passed : Passed) (next : Cursor) → passed ≡ passed_in bytes (take_edits limits n R E Nothing bytes)
-    → passed ≡ To next → Looked bytes (take_edits limits n R E Nothing bytes) next.at
-edits-looked n R E bytes passed next p q = looked bytes _ passed next (edits-tail limits n R E Nothing bytes) p q
-
-pub part-refused : {A : Type 0} (bytes : List ℕ) (t : Taken A) (passed : Passed) (r x : Refusal) → passed ≡ passed_in bytes t
-    → r ≡ passed_refusal_in passed → passed ≡ PassedRefused x → t ≡ refused r
-part-refused bytes t passed r x p q f = passed-was-refused bytes t r (sym p ∙ passed-refusal-passed passed r x q f)
+pub edits-looked : (n R E : ℕ) (bytes : List ℕ) (next : Cursor) → Ok next ≡ passed_in bytes (take_edits limits n R E None bytes)
+    → Looked bytes (take_edits limits n R E None bytes) next.at
+edits-looked n R E bytes next e = looked bytes _ next (edits-tail limits n R E None bytes) e
 
 -- Nothing is left, or something is.
 pub nothing_left : (at : ℕ) (bytes : List ℕ) → length bytes ≤ at → from at bytes ≡ []
@@ -153,7 +129,7 @@ something-left at bytes h = rw from_is (by (drop at bytes) (rw length-drop (omeg
 module _
     (bytes : List ℕ) (h : Header) (after-header : List ℕ) (header : take_header limits bytes ≡ value h after-header)
     (sets : List Seats) (after-losses : List ℕ) (losses : take_rounds limits h.seats h.rounds after-header ≡ value sets after-losses)
-    (at : ℕ) (last : Looked after-losses (take_edits limits h.seats h.rounds h.edits Nothing after-losses) at) where
+    (at : ℕ) (last : Looked after-losses (take_edits limits h.seats h.rounds h.edits None after-losses) at) where
   pub bytes_left : at < length after-losses → reading_of limits bytes ≡ bad BytesLeft
   bytes_left h-left =
       let more = something-left at after-losses h-left in

@@ -5,36 +5,23 @@ ghost use Rattle.record.specs.Document.{reading_of};
 ghost use Rattle.record.specs.Answers.{checked_of};
 
 use farm::refusals::Refusal;
-use parts::answers::{HeaderRead, Passed, header_refusal, passed_refusal};
 use parts::edit_reader::check_edits;
 use parts::header_reader::read_header;
 use parts::loss_reader::check_losses;
-use record::answers::Checked;
+use record::header::Header;
 
 // Whether the bytes are a good record. The losses are read from the part after the header, and the
 // edits from the part after the losses, where they stand.
-pub fn check(bytes: &[u8]) -> Checked
+pub fn check(bytes: &[u8]) -> Result<Header, Refusal>
     ensures { result ≡ checked_of (reading_of bytes.now) }
 {
-    let read = read_header(bytes);
-    let HeaderRead::Header(header, after_header) = read else {
-        return Checked::Refused(header_refusal(read));
-    };
-    let at = after_header.at;
-    let losses = &bytes[at..];
-    let looked = check_losses(losses, header.seats, header.rounds);
-    let Passed::To(after_losses) = looked else {
-        return Checked::Refused(passed_refusal(looked));
-    };
-    let next = after_losses.at;
-    let edits = &losses[next..];
-    let ended = check_edits(edits, header.seats, header.rounds, header.edits);
-    let Passed::To(after_edits) = ended else {
-        return Checked::Refused(passed_refusal(ended));
-    };
-    let end = after_edits.at;
-    if end < edits.len() {
-        return Checked::Refused(Refusal::BytesLeft);
+    let (header, after_header) = read_header(bytes)?;
+    let losses = &bytes[after_header.at..];
+    let after_losses = check_losses(losses, header.seats, header.rounds)?;
+    let edits = &losses[after_losses.at..];
+    let after_edits = check_edits(edits, header.seats, header.rounds, header.edits)?;
+    if after_edits.at < edits.len() {
+        return Err(Refusal::BytesLeft);
     }
-    Checked::Good(header)
+    Ok(header)
 }

@@ -1,5 +1,4 @@
 pub mod NumberLaws
-pub mod ResultLaws
 pub mod WideLaws
 pub mod AskedLaws
 pub mod CompleteLaws

@@ -13,32 +13,32 @@ pub struct SeatNumber(pub u32);
 #[derive(Clone, Copy)]
 pub struct TimeNumber(pub u32);
 
+#[tactic(auto, unfolding(crate::specs::Numbers::at_most))]
 pub fn byte_of(number: u32) -> u8
     ensures { result ≡ at_most 255 number }
 {
-    if 255 < number {
-        return 255;
-    }
-    number as u8
+    u8::try_from(number).unwrap_or(u8::MAX)
 }
 
+#[tactic(auto, unfolding(crate::specs::Numbers::at_most))]
 pub fn short_of(number: u32) -> u16
     ensures { result ≡ at_most 65535 number }
 {
-    if 65535 < number {
-        return 65535;
+    u16::try_from(number).unwrap_or(u16::MAX)
+}
+
+impl From<SeatNumber> for Seat {
+    ghost from_gives = { λ number seat. seat ≡ record { 0 = at_most 255 number.0 } };
+
+    fn from(number: SeatNumber) -> Seat {
+        Seat(byte_of(number.0))
     }
-    number as u16
 }
 
-pub fn seat_of(number: SeatNumber) -> Seat
-    ensures { result ≡ record { 0 = at_most 255 number.0 } }
-{
-    Seat(byte_of(number.0))
-}
+impl From<TimeNumber> for Time {
+    ghost from_gives = { λ number time. time ≡ record { 0 = at_most 65535 number.0 } };
 
-pub fn time_of(number: TimeNumber) -> Time
-    ensures { result ≡ record { 0 = at_most 65535 number.0 } }
-{
-    Time(short_of(number.0))
+    fn from(number: TimeNumber) -> Time {
+        Time(short_of(number.0))
+    }
 }

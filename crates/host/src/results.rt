@@ -1,12 +1,11 @@
 // Answers as a host gets them: the number of the refusal, 0 where there is none, and beside it what was found. The meaning of
 // each stands in specs/Results.antt.
 ghost use Rattle.std.specs.Prelude.{◌≡◌};
-ghost use Rattle.host.specs.Results.{given_number, done_number, header_told, length_told, seen_told, agreed_told, standing_told};
+ghost use Rattle.host.specs.Results.{refusal_number, header_told, length_told, seen_told, agreed_told, standing_told};
 
-use farm::refusals::number;
-use live::answers::Done;
-use questions::answers::{Agreed, Given, Seen, Standing};
-use record::answers::{Checked, Written};
+use farm::refusals::{Refusal, number};
+use questions::answers::{Agreed, Seen, Standing};
+use record::header::Header;
 
 #[repr(C)]
 #[derive(Clone, Copy)]
@@ -51,99 +50,120 @@ pub struct StandingTold {
     pub loser: u8,
 }
 
-pub fn given_number(given: Given) -> u8
-    ensures { result ≡ given_number given }
+// An answer that is nothing but the refusal: what is found stands in the table or in a lent buffer.
+pub fn refusal_number(answer: Result<(), Refusal>) -> u8
+    ensures { result ≡ refusal_number answer }
 {
-    match given {
-        Given::Done => 0,
-        Given::Refused(refusal) => number(refusal),
+    match answer {
+        Ok(()) => 0,
+        Err(refusal) => number(refusal),
     }
 }
 
-pub fn done_number(done: Done) -> u8
-    ensures { result ≡ done_number done }
-{
-    match done {
-        Done::Accepted => 0,
-        Done::Refused(refusal) => number(refusal),
+impl From<Result<Header, Refusal>> for HeaderTold {
+    ghost from_gives = { λ answer told. told ≡ header_told answer };
+
+    fn from(answer: Result<Header, Refusal>) -> HeaderTold {
+        match answer {
+            Ok(header) => HeaderTold {
+                refusal: 0,
+                seats: header.seats,
+                bound: header.bound,
+                rounds: header.rounds,
+                edits: header.edits,
+            },
+            Err(refusal) => HeaderTold {
+                refusal: number(refusal),
+                seats: 0,
+                bound: 0,
+                rounds: 0,
+                edits: 0,
+            },
+        }
     }
 }
 
-pub fn tell_header(checked: Checked) -> HeaderTold
-    ensures { result ≡ header_told checked }
-{
-    match checked {
-        Checked::Good(header) => HeaderTold {
-            refusal: 0,
-            seats: header.seats,
-            bound: header.bound,
-            rounds: header.rounds,
-            edits: header.edits,
-        },
-        Checked::Refused(refusal) => HeaderTold {
-            refusal: number(refusal),
-            seats: 0,
-            bound: 0,
-            rounds: 0,
-            edits: 0,
-        },
+impl From<Result<usize, Refusal>> for LengthTold {
+    ghost from_gives = { λ answer told. told ≡ length_told answer };
+
+    fn from(answer: Result<usize, Refusal>) -> LengthTold {
+        match answer {
+            Ok(length) => LengthTold { refusal: 0, length },
+            Err(refusal) => LengthTold {
+                refusal: number(refusal),
+                length: 0,
+            },
+        }
     }
 }
 
-pub fn tell_length(written: Written) -> LengthTold
-    ensures { result ≡ length_told written }
-{
-    match written {
-        Written::Length(length) => LengthTold { refusal: 0, length },
-        Written::Refused(refusal) => LengthTold {
-            refusal: number(refusal),
-            length: 0,
-        },
+impl From<Result<Seen, Refusal>> for SeenTold {
+    ghost from_gives = { λ answer told. told ≡ seen_told answer };
+
+    fn from(answer: Result<Seen, Refusal>) -> SeenTold {
+        match answer {
+            Ok(seen) => {
+                let view = seen.latest;
+                SeenTold {
+                    refusal: 0,
+                    known: seen.known,
+                    view,
+                }
+            }
+            Err(refusal) => SeenTold {
+                refusal: number(refusal),
+                known: 0,
+                view: [-1; 7],
+            },
+        }
     }
 }
 
-pub fn tell_seen(seen: Seen) -> SeenTold
-    ensures { result ≡ seen_told seen }
-{
-    let given = seen.given;
-    let view = seen.latest;
-    SeenTold {
-        refusal: given_number(given),
-        known: seen.known,
-        view,
+impl From<Result<Agreed, Refusal>> for AgreedTold {
+    ghost from_gives = { λ answer told. told ≡ agreed_told answer };
+
+    fn from(answer: Result<Agreed, Refusal>) -> AgreedTold {
+        match answer {
+            Ok(agreed) => {
+                let core = agreed.latest;
+                AgreedTold {
+                    refusal: 0,
+                    steps: agreed.summary.steps,
+                    critical: agreed.summary.critical,
+                    kept: agreed.summary.kept,
+                    count: agreed.count,
+                    core,
+                }
+            }
+            Err(refusal) => AgreedTold {
+                refusal: number(refusal),
+                steps: 0,
+                critical: 0,
+                kept: 0,
+                count: 0,
+                core: [-1; 7],
+            },
+        }
     }
 }
 
-pub fn tell_agreed(agreed: Agreed) -> AgreedTold
-    ensures { result ≡ agreed_told agreed }
-{
-    let given = agreed.given;
-    let core = agreed.latest;
-    AgreedTold {
-        refusal: given_number(given),
-        steps: agreed.summary.steps,
-        critical: agreed.summary.critical,
-        kept: agreed.summary.kept,
-        count: agreed.count,
-        core,
-    }
-}
+impl From<Result<Standing, Refusal>> for StandingTold {
+    ghost from_gives = { λ answer told. told ≡ standing_told answer };
 
-pub fn tell_standing(standing: Standing) -> StandingTold
-    ensures { result ≡ standing_told standing }
-{
-    match standing {
-        Standing::Clean => StandingTold {
-            refusal: 0,
-            loser: 0,
-        },
-        Standing::Loser => StandingTold {
-            refusal: 0,
-            loser: 1,
-        },
-        Standing::Refused(refusal) => StandingTold {
-            refusal: number(refusal),
-            loser: 0,
-        },
+    fn from(answer: Result<Standing, Refusal>) -> StandingTold {
+        match answer {
+            Ok(Standing::Clean) => StandingTold {
+                refusal: 0,
+                loser: 0,
+            },
+            Ok(Standing::Loser) => StandingTold {
+                refusal: 0,
+                loser: 1,
+            },
+            Err(refusal) => StandingTold {
+                refusal: number(refusal),
+                loser: 0,
+            },
+        }
     }
 }

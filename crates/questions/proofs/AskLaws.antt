@@ -3,12 +3,15 @@
 use mathlib.Core.Path.{◌≡◌, refl}
 use mathlib.Core.List.{List}
 use lib.IntN.{ℤ}
-use mathlib.Core.Bool.{Bool, true, false, ◌&&◌}
+use lib.ListN.{length}
+use mathlib.Core.Bool.{Bool, true, false}
+use Rattle.std.specs.Prelude.{Ok, Err}
 use Prim.Native.Nat.{ℕ, suc, ◌<◌, ◌≤◌}
 use native.Mathlib.Omega.{arith}
 use lib.Dec.{leb}
 use borrow.Author.Tests.{ltb-true, leb-true, lt-ltb, le-ltb, le-leb, lt-leb}
-use Rattle.farm.specs.Sets.{bit}
+use Rattle.farm.specs.Limits.{limits}
+use Rattle.farm.specs.Sets.{Seats, bit}
 use Rattle.farm.specs.declared.places.Seat.{Seat}
 use Rattle.farm.specs.declared.places.Time.{Time}
 use Rattle.farm.specs.declared.refusals.Refusal.TheVariants.{NoRoom, NoSuchPlace}
@@ -19,19 +22,16 @@ use Rattle.knowledge.specs.Known.{known_of}
 use Rattle.knowledge.specs.Settled.{Settled, outcome_of}
 use Rattle.knowledge.proofs.ViewLaws.{le-of-below}
 use Rattle.knowledge.proofs.ViewTheory.{view-past}
-use Rattle.questions.specs.declared.answers.Given.TheVariants.{Done}
+use Rattle.viewing.specs.Counts.{counts, farm_for}
+use Rattle.viewing.specs.declared.sizes.Sizes.{Sizes}
+use Rattle.telling.specs.Laid.{InTime, laid}
+use Rattle.telling.proofs.TimeLaws.{length-counts, counts-bound}
 use Rattle.questions.specs.declared.answers.Seen.{Seen}
-use Rattle.telling.specs.Laid.{laid}
+use Rattle.questions.specs.Accepted.{Accepted}
 use Rattle.questions.specs.Answers.{no_times, seen_answer}
 use Rattle.questions.specs.Question.{found, refused, Lent, by_value, buffer, fits, is_place, provided, of_outcome, view_in, known_in, settled_in, loser_in}
 
 -- ════ 8 ════
-
-pub no_place : (a b : Bool) → a ≡ false → false ≡ (a && b)
-no_place a b e = rw e
-
-pub maybe-place : (a b : Bool) → a ≡ true → b ≡ (a && b)
-maybe-place a b e = rw e
 
 module _ (farm : Farm) (p : Seat) (ℓ : Time) where
   pub place-below : is_place farm p ℓ ≡ true → (p.0 < farm.seats) × (ℓ.0 ≤ farm.rounds)
@@ -59,19 +59,18 @@ module _ (farm : Farm) (p : Seat) (ℓ : Time) where
   unfolding view_in provided fits
   view-valued e = rw e
 
-  pub known-nowhere : is_place farm p ℓ ≡ false → known_in farm p ℓ ≡ refused NoSuchPlace
-  unfolding known_in provided
-  known-nowhere e = rw e
-
   pub known-found : is_place farm p ℓ ≡ true → known_in farm p ℓ ≡ found (known_of farm p ℓ)
   unfolding known_in provided
   known-found e = rw e
 
+  pub seen-nowhere : is_place farm p ℓ ≡ false → Err NoSuchPlace ≡ seen_answer (view_in by_value farm p ℓ) (known_in farm p ℓ)
+  seen-nowhere e = rw (view-nowhere by_value e) refl
+
   pub seen-found : is_place farm p ℓ ≡ true → (l : List ℤ) (k : ℕ) → l ≡ laid (latest_times farm.seats (view_of farm p ℓ)) no_times → k ≡ known_of farm p ℓ
-      → ◌≡◌ {A = Seen} (record { given = Done; latest = l; known = k }) (seen_answer (view_in by_value farm p ℓ) (known_in farm p ℓ))
+      → Ok (let seen : Seen = record { latest = l; known = k } in seen) ≡ seen_answer (view_in by_value farm p ℓ) (known_in farm p ℓ)
   seen-found e l k el ek = rw (view-valued e, known-found e, el, ek) refl
 
-  pub view-in-time : (k : ℕ) → ℓ.0 ≤ k → (q : ℕ) → view_of farm p ℓ q ≤ suc k
+  view-in-time : (k : ℕ) → ℓ.0 ≤ k → (q : ℕ) → view_of farm p ℓ q ≤ suc k
   view-in-time k h q =
       le-of-below (view_of farm p ℓ q) (suc k)
       (λ j l. let past = view-past farm p.0 ℓ.0 q j l in omega arith)
@@ -99,8 +98,8 @@ module _ (farm : Farm) (p : Seat) (ℓ : Time) where
     where
       by : (a b : Bool) → leb need entries ≡ b → provided a NoSuchPlace (provided b NoRoom (of_outcome (outcome_of farm p ℓ))) ≡ found s → need ≤ entries
       by true true f g = leb-true need entries f
-      by true false f g = let z : ◌≡◌ {A = ℕ} 0 1 = cc in absurd (omega arith)
-      by false b f g = let z : ◌≡◌ {A = ℕ} 0 1 = cc in absurd (omega arith)
+      by true false f g = absurd cc
+      by false b f g = absurd cc
 
   -- By value no room is wanted.
   pub settled-unlent : settled_in by_value 0 farm p ℓ ≡ settled_in (buffer 0) 0 farm p ℓ
@@ -110,6 +109,21 @@ module _ (farm : Farm) (p : Seat) (ℓ : Time) where
   pub settled-valued : (need : ℕ) → is_place farm p ℓ ≡ true → settled_in by_value need farm p ℓ ≡ of_outcome (outcome_of farm p ℓ)
   unfolding settled_in provided fits
   settled-valued need e = rw e
+
+-- ════ On an accepted record ════
+
+module _ (sizes : Sizes) (losses : List Seats) (sound : Accepted sizes) (p : Seat) (ℓ : Time) (real : is_place (farm_for sizes losses) p ℓ ≡ true) where
+  pub place-in-limits : (sizes.seats ≤ limits.most_seats) × (p.0 < sizes.seats) × (ℓ.0 ≤ limits.most_rounds)
+  place-in-limits = let below = place-below (farm_for sizes losses) p ℓ real in (sound.seats, below.0, omega arith)
+
+  -- The counts of its view are told as times.
+  pub view-in-limits : (view : List ℕ) → view ≡ counts sizes.seats (view_of (farm_for sizes losses) p ℓ) → (sizes.seats ≤ length view) × InTime view
+  view-in-limits view e =
+      let farm = farm_for sizes losses in
+      let whole = length-counts sizes.seats (view_of farm p ℓ) view e in
+      let seats : sizes.seats ≤ 7 = sound.seats in
+      let early : ℓ.0 ≤ 127 = place-in-limits.2 in
+      (omega arith, counts-bound sizes.seats (view_of farm p ℓ) view 128 e (view-in-time farm p ℓ 127 early))
 
 -- ════ Losers: 8 ════
 

@@ -25,8 +25,7 @@ use Rattle.knowledge.proofs.OutcomeTheory.{outcome-exists, answer-fixed}
 use Rattle.viewing.specs.Counts.{counts, held, below, filled}
 use Rattle.construction.specs.Answers.{answer_for, settled_for}
 use Rattle.construction.specs.declared.settled.Settled as construction
-use Rattle.construction.specs.declared.settled.Answer.{Answer}
-use Rattle.construction.specs.declared.settled.Ruling.TheVariants.{Answered, Refused}
+use Rattle.std.specs.Prelude.{Result, Ok, Err}
 use Rattle.viewing.proofs.CountLaws.{get_or-filled, below_out, get_d_past}
 use Rattle.viewing.proofs.ViewSteps.{held-counts}
 use Rattle.questions.specs.Question.{Asked, found, refused, Lent, looking, of_outcome, settled_in}
@@ -63,56 +62,38 @@ module _ (farm : Farm) (fits : farm.bound < farm.seats) (p : Seat) (ℓ : Time) 
       let small = kept-within in
       (seen-plays farm (place (seat q) (time j)) (in-view-complete farm w.0 w.1 q j w.5) g, omega arith)
 
-  pub core-in-time : (q : ℕ) → s.core q ≤ ℓ.0
+  core-in-time : (q : ℕ) → s.core q ≤ ℓ.0
   core-in-time q = le-of-below (s.core q) ℓ.0 (λ j h. (core-was q j h).1)
 
-  pub core-of-none : (q : ℕ) → farm.seats ≤ q → s.core q ≡ 0
+  core-of-none : (q : ℕ) → farm.seats ≤ q → s.core q ≡ 0
   core-of-none q h =
       le_antisymm (le-of-below (s.core q) 0 (λ j l. let w = (core-was q j l).0 in let no : ⊥ = omega arith in absurd no)) (omega arith)
 
--- ════ The code's ruling ════
+-- ════ What the construction answers ════
 
--- What an answer of the construction that is none of its refusals holds.
-pub record Ruled (farm : Farm) (p : Seat) (ℓ : Time) (a : Answer) : Type 0 where
+-- A settled answer in the code's numbers.
+record Answered (farm : Farm) (p : Seat) (ℓ : Time) (s : construction.Settled) : Type 0 where
   pub what : Settled
   pub was : outcome_of farm p ℓ ≡ settled what
-  pub is : a.settled ≡ settled_for farm.seats what
+  pub is : s ≡ settled_for farm.seats what
 
-refused-was : (n : ℕ) (o : Outcome) (a : Answer) (r : Refusal) → a ≡ answer_for n o → a.ruling ≡ Refused r → of_outcome o ≡ refused r
+refused-was : (n : ℕ) (o : Outcome) (x : Refusal) → answer_for n o ≡ Err x → of_outcome o ≡ refused x
 unfolding of_outcome
-refused-was n over_bound a r e f =
-    let same : Refused OverBound ≡ Refused r = sym (ap (λ (x : Answer). x.ruling) e) ∙ f in
-    let which : OverBound ≡ r = cc in
-    ap refused which
-refused-was n (settled s) a r e f =
-    let same : Answered ≡ Refused r = sym (ap (λ (x : Answer). x.ruling) e) ∙ f in
-    let z : ◌≡◌ {A = ℕ} 0 1 = cc in
-    absurd (omega arith)
+refused-was n over_bound x e = let which : OverBound ≡ x = cc in ap refused which
+refused-was n (settled s) x e = absurd cc
 
-answered-was : (n : ℕ) (o : Outcome) (a : Answer) → a ≡ answer_for n o → a.ruling ≡ Answered
-    → (s : Settled) × (o ≡ settled s) × (a.settled ≡ settled_for n s)
-answered-was n over_bound a e f =
-    let same : Refused OverBound ≡ Answered = sym (ap (λ (x : Answer). x.ruling) e) ∙ f in
-    let z : ◌≡◌ {A = ℕ} 0 1 = cc in
-    absurd (omega arith)
-answered-was n (settled s) a e f = (s, refl, ap (λ (x : Answer). x.settled) e)
-
-module _ (farm : Farm) (p : Seat) (ℓ : Time) (a : Answer) (e : a ≡ answer_for farm.seats (outcome_of farm p ℓ)) where
-  pub ruled_out : (r : Refusal) → a.ruling ≡ Refused r → of_outcome (outcome_of farm p ℓ) ≡ refused r
-  ruled_out r f = refused-was farm.seats (outcome_of farm p ℓ) a r e f
-
-  pub ruled-in : a.ruling ≡ Answered → Ruled farm p ℓ a
-  ruled-in f = let w = answered-was farm.seats (outcome_of farm p ℓ) a e f in record { what = w.0; was = w.1; is = w.2 }
+answered-was : (n : ℕ) (o : Outcome) (s : construction.Settled) → answer_for n o ≡ Ok s → (what : Settled) × (o ≡ settled what) × (s ≡ settled_for n what)
+answered-was n over_bound s e = absurd cc
+answered-was n (settled what) s e = let same : settled_for n what ≡ s = cc in (what, refl, sym same)
 
 -- The code's core, as an array.
-pub core-array : (farm : Farm) (p : Seat) (ℓ : Time) (a : Answer) (r : Ruled farm p ℓ a)
-    → a.settled.core.of ≡ counts farm.seats r.what.core
-core-array farm p ℓ a r = ap (λ (x : construction.Settled). x.core.of) r.is
+core-array : (farm : Farm) (p : Seat) (ℓ : Time) (s : construction.Settled) (r : Answered farm p ℓ s) → s.core.of ≡ counts farm.seats r.what.core
+core-array farm p ℓ s r = ap (λ (x : construction.Settled). x.core.of) r.is
 
-pub core-in-limits : (farm : Farm) → farm.bound < farm.seats → (p : Seat) (ℓ : Time) → IsSeat farm p → ℓ.0 ≤ 127
-    → (a : Answer) (r : Ruled farm p ℓ a) → InTime a.settled.core.of
-core-in-limits farm fits p ℓ here early a r =
-    counts-bound farm.seats r.what.core a.settled.core.of 128 (core-array farm p ℓ a r)
+core-in-limits : (farm : Farm) → farm.bound < farm.seats → (p : Seat) (ℓ : Time) → IsSeat farm p → ℓ.0 ≤ 127
+    → (s : construction.Settled) (r : Answered farm p ℓ s) → InTime s.core.of
+core-in-limits farm fits p ℓ here early s r =
+    counts-bound farm.seats r.what.core s.core.of 128 (core-array farm p ℓ s r)
     (λ q. let e = core-in-time farm fits p ℓ here r.what r.was q in omega arith)
 
 -- ════ In a core that the code holds as an array ════
@@ -122,40 +103,41 @@ unfolding held counts filled
 held-past n v q h =
     ⊎_elim (λ i. get_or-filled 7 n v q i ∙ below_out n v q h) (λ o. get_d_past 7 (below n v) q o) (less-or-not q 7)
 
-pub core-held : (farm : Farm) → farm.bound < farm.seats → farm.seats ≤ 7 → (p : Seat) (ℓ : Time) → IsSeat farm p
-    → (a : Answer) (r : Ruled farm p ℓ a) → held a.settled.core.of ≡ r.what.core
-core-held farm fits small p ℓ here a r =
+core-held : (farm : Farm) → farm.bound < farm.seats → farm.seats ≤ 7 → (p : Seat) (ℓ : Time) → IsSeat farm p
+    → (s : construction.Settled) (r : Answered farm p ℓ s) → held s.core.of ≡ r.what.core
+core-held farm fits small p ℓ here s r =
     fun_ext (λ q.
-    ap (λ (l : List ℕ). held l q) (core-array farm p ℓ a r)
+    ap (λ (l : List ℕ). held l q) (core-array farm p ℓ s r)
     ∙ ⊎_elim (held-counts farm.seats r.what.core q small)
     (λ o. held-past farm.seats r.what.core q o ∙ sym (core-of-none farm fits p ℓ here r.what r.was q o))
     (less-or-not q farm.seats))
 
-pub outcome-found : (o : Outcome) (s : Settled) → o ≡ settled s → of_outcome o ≡ found s
+outcome-found : (o : Outcome) (s : Settled) → o ≡ settled s → of_outcome o ≡ found s
 unfolding of_outcome
 outcome-found o s e = rw e
 
 -- ════ What is settled at a place ════
 
-pub settled-not : (n : ℕ) (asked : Asked Settled) (x : Refusal) (a : Answer) → asked ≡ refused x → a.ruling ≡ Refused x → Settles n asked a
-settled-not n asked x a e f = record {
-  refuses = λ y g. let same : Refused x ≡ Refused y = sym f ∙ g in let which : x ≡ y = cc in e ∙ ap refused which;
-  answers = λ g. let same : Refused x ≡ Answered = sym f ∙ g in let z : ◌≡◌ {A = ℕ} 0 1 = cc in absurd (omega arith);
+pub settled-not : (n : ℕ) (asked : Asked Settled) (x : Refusal) → asked ≡ refused x → Settles n asked (Err x)
+settled-not n asked x e = record {
+  refuses = λ y (g : Err x ≡ Err y). let which : x ≡ y = cc in e ∙ ap refused which;
+  answers = λ s (g : Err x ≡ Ok s). absurd cc;
 }
 
 pub settled-so : (farm : Farm) → farm.bound < farm.seats → farm.seats ≤ 7 → (p : Seat) (ℓ : Time) → IsSeat farm p → ℓ.0 ≤ 127
-    → (a : Answer) → a ≡ answer_for farm.seats (outcome_of farm p ℓ) → (asked : Asked Settled) → asked ≡ of_outcome (outcome_of farm p ℓ)
-    → Settles farm.seats asked a
-settled-so farm fits small p ℓ here early a e asked same = record {
-  refuses = λ x f. same ∙ ruled_out farm p ℓ a e x f;
-  answers = λ f.
-      let r = ruled-in farm p ℓ a e f in
+    → (answer : Result construction.Settled Refusal) → answer ≡ answer_for farm.seats (outcome_of farm p ℓ)
+    → (asked : Asked Settled) → asked ≡ of_outcome (outcome_of farm p ℓ) → Settles farm.seats asked answer
+settled-so farm fits small p ℓ here early answer e asked same = record {
+  refuses = λ x f. same ∙ refused-was farm.seats (outcome_of farm p ℓ) x (sym e ∙ f);
+  answers = λ s f.
+      let w = answered-was farm.seats (outcome_of farm p ℓ) s (sym e ∙ f) in
+      let r : Answered farm p ℓ s = record { what = w.0; was = w.1; is = w.2 } in
       record {
         what = r.what;
         is = same ∙ outcome-found _ r.what r.was;
         coded = r.is;
-        core = core-held farm fits small p ℓ here a r;
-        early = core-in-limits farm fits p ℓ here early a r;
+        core = core-held farm fits small p ℓ here s r;
+        early = core-in-limits farm fits p ℓ here early s r;
       };
 }
 

@@ -1,5 +1,5 @@
 -- Questions on a record that is accepted already: n, t and R with the loss sets, and the edits' seats and times as two lists.
-use Rattle.std.specs.Prelude.{◌≡◌, List, ℕ, ◌≤◌, ◌<◌, ℤ, length}
+use Rattle.std.specs.Prelude.{◌≡◌, List, ℕ, ◌≤◌, ◌<◌, ℤ, length, Result, Ok, Err}
 use Rattle.farm.specs.Limits.{limits}
 use Rattle.farm.specs.declared.places.Seat.{Seat}
 use Rattle.farm.specs.declared.places.Time.{Time}
@@ -9,12 +9,9 @@ use Rattle.knowledge.specs.Settled as rules
 use Rattle.knowledge.specs.Views.{latest_times}
 use Rattle.construction.specs.Answers.{settled_for}
 use Rattle.viewing.specs.Counts.{held}
-use Rattle.construction.specs.declared.settled.Answer.{Answer}
-use Rattle.construction.specs.declared.settled.Ruling.TheVariants.{Answered, Refused}
 use Rattle.construction.specs.declared.settled.Settled.{Settled}
 use Rattle.viewing.specs.declared.sizes.Sizes.{Sizes}
 use Rattle.questions.specs.declared.answers.Agreed.{Agreed}
-use Rattle.questions.specs.declared.answers.Given.TheVariants.{Done}
 use Rattle.telling.specs.Laid.{InTime, laid}
 use Rattle.questions.specs.Answers.{no_times}
 use Rattle.questions.specs.Question.{Asked, found, refused, Lent, looking, settled_in}
@@ -49,13 +46,12 @@ pub record Found (n : ℕ) (asked : Asked rules.Settled) (settled : Settled) : T
 abbrev pub agreed_with : (n : ℕ) → Settled → (seats times : List ℕ) → Agreed
 agreed_with n s seats times =
     record {
-      given = Done;
       summary = record { critical = s.critical; kept = s.kept; steps = s.steps };
       latest = laid (latest_times n (held s.core.of)) no_times;
       count = count_in (held s.core.of) seats times;
     }
 
--- A ruling is the refusal that the order decides, or stands beside the settled answer.
-pub record Settles (n : ℕ) (asked : Asked rules.Settled) (answer : Answer) : Type 0 where
-  pub refuses : (x : Refusal) → answer.ruling ≡ Refused x → asked ≡ refused x
-  pub answers : answer.ruling ≡ Answered → Found n asked answer.settled
+-- An answer is the refusal that the order decides, or what is settled.
+pub record Settles (n : ℕ) (asked : Asked rules.Settled) (answer : Result Settled Refusal) : Type 0 where
+  pub refuses : (x : Refusal) → answer ≡ Err x → asked ≡ refused x
+  pub answers : (s : Settled) → answer ≡ Ok s → Found n asked s

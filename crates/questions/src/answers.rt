@@ -1,6 +1,4 @@
-// What a question answers: what is found, or the one refusal that the order decides. The meaning of
-// each case stands in specs/Answers.antt.
-use farm::refusals::Refusal;
+// What a question answers where it is not refused. The meaning of each case stands in specs/Answers.antt.
 
 // What the construction settles, beside the core: critical time, kept set and count of steps.
 #[derive(Clone, Copy)]
@@ -15,30 +13,19 @@ pub struct Summary {
 pub enum Standing {
     Clean,
     Loser,
-    Refused(Refusal),
-}
-
-// Whether the answer stands in the buffer that was lent for it.
-#[derive(Clone, Copy)]
-pub enum Given {
-    Done,
-    Refused(Refusal),
 }
 
 // What a seat has seen: for each seat the latest time or -1 for none, and the known set. The entries from n on
-// are -1. Beside a refusal all of them are, and the set is empty.
+// are -1.
 #[derive(Clone, Copy)]
 pub struct Seen {
-    pub given: Given,
     pub latest: [i16; 7],
     pub known: u16,
 }
 
-// What the page says of a place: the settled answer, the core as in `Seen`, and how many edits are in
-// it. Beside a refusal the summary and the count are 0, and the times are all -1.
+// What the page says of a place: the settled answer, the core as in `Seen`, and how many edits are in it.
 #[derive(Clone, Copy)]
 pub struct Agreed {
-    pub given: Given,
     pub summary: Summary,
     pub latest: [i16; 7],
     pub count: u16,

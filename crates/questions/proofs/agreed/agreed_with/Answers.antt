@@ -9,4 +9,4 @@ use Rattle.questions.proofs.agreed.agreed_with.Goals as goal
 pub returns : goal.returns
 returns c =
     let a = c.args in
-    agreed-parts a.seats a.editors.now a.times.now a.settled _ _ _ (to_z-of_z w16 a.settled.critical (search rules)) c.put_times.ensures c.count_marks.ensures
+    agreed-parts a.seats a.edits.editors.now a.edits.times.now a.settled _ _ _ (to_z-of_z w16 a.settled.critical (search rules)) c.put_times.ensures c.count_marks.ensures

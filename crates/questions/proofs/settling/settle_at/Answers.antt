@@ -1,10 +1,9 @@
--- `questions::settling::settle_at` meets its contract: 8, 7, or what the construction rules.
+-- `questions::settling::settle_at` meets its contract: 8, 7, or what the construction answers.
 -- Assumes nothing.
-use Rattle.questions.proofs.AskLaws.{place-below, settled-nowhere, settled-tight, settled-roomy}
+use Rattle.questions.proofs.AskLaws.{place-in-limits, settled-nowhere, settled-tight, settled-roomy}
 use Rattle.questions.proofs.CoreLaws.{settled-not, settled-so}
 use Rattle.questions.specs.Question.{is_place, buffer}
-use Rattle.viewing.specs.Counts.{farm_for}
-use native.Mathlib.Omega.{arith}
+use Rattle.viewing.specs.Counts.{farm_in}
 use mathlib.Core.Path.{sym, ◌∙◌}
 use Rattle.questions.proofs.settling.settle_at.Goals as goal
 
@@ -12,35 +11,29 @@ pub returns-then-not-is_place : goal.returns-then-not-is_place
 unfolding is_place
 returns-then-not-is_place c =
     let a = c.args in
-    settled-not _ _ _ _
-    (settled-nowhere (farm_for a.sizes a.losses.now) a.seat a.time (buffer a.room) a.need (sym c.is_place.ensures ∙ c.if-not-is_place.true))
-    c.not_settled.ensures
+    settled-not _ _ _
+    (settled-nowhere (farm_in a.farm) a.seat a.time (buffer a.room) a.need (sym c.is_place.ensures ∙ c.if-not-is_place.true))
 
 pub returns-then-room-need : goal.returns-then-room-need
 unfolding is_place
 returns-then-room-need c =
     let a = c.args in
-    settled-not _ _ _ _
-    (settled-tight (farm_for a.sizes a.losses.now) a.seat a.time a.room a.need (sym c.is_place.ensures ∙ c.if-not-is_place.false) c.if-room-need.true)
-    c.not_settled-then-room-need.ensures
+    settled-not _ _ _
+    (settled-tight (farm_in a.farm) a.seat a.time a.room a.need (sym c.is_place.ensures ∙ c.if-not-is_place.false) c.if-room-need.true)
 
 pub settle-requires : goal.settle-requires
 unfolding is_place
 settle-requires c =
-    let s = c in
-    let a = s.args in
-    let pre = s.requires in
-    let here = place-below (farm_for a.sizes a.losses.now) a.seat a.time (sym c.is_place.ensures ∙ c.if-not-is_place.false) in
-    (omega arith, omega arith, omega arith, omega arith)
+    let a = c.args in
+    let place = place-in-limits a.farm.sizes a.farm.losses.now c.requires a.seat a.time (sym c.is_place.ensures ∙ c.if-not-is_place.false) in
+    (place.0, c.requires.bound, place.1, place.2)
 
 pub returns : goal.returns
 unfolding is_place
 returns c =
-    let s = c in
-    let a = s.args in
-    let pre = s.requires in
-    let farm = farm_for a.sizes a.losses.now in
+    let a = c.args in
+    let farm = farm_in a.farm in
     let real = sym c.is_place.ensures ∙ c.if-not-is_place.false in
-    let here = place-below farm a.seat a.time real in
-    settled-so farm pre.bound pre.seats a.seat a.time here.0 (omega arith) _ c.settle.ensures _
+    let place = place-in-limits a.farm.sizes a.farm.losses.now c.requires a.seat a.time real in
+    settled-so farm c.requires.bound c.requires.seats a.seat a.time place.1 place.2 _ c.settle.ensures _
     (settled-roomy farm a.seat a.time a.room a.need real c.if-room-need.false)

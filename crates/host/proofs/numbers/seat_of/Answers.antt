@@ -1,8 +1,0 @@
--- `host::numbers::seat_of` meets its contract, by what `byte_of` gives.
--- Assumes nothing.
-use mathlib.Core.Path.{ap}
-use Prim.Native.Nat.{ℕ}
-use Rattle.host.proofs.numbers.seat_of.Goals as goal
-
-pub returns : goal.returns
-returns c = ap (λ (number : ℕ). record { 0 = number }) c.byte_of.ensures
