@@ -1,5 +1,6 @@
 -- A number of an edit that was accepted, read again with no test of its range: it is the one that was taken then.
 -- Assumes nothing.
+use Rattle.std.specs.Prelude.{Result, Ok, Err}
 use mathlib.Core.Path.{◌≡◌, sym, ◌∙◌, subst}
 use mathlib.Core.List.{List}
 use Prim.Native.Nat.{ℕ, ◌-◌}
@@ -8,10 +9,8 @@ use lib.ListN.{drop}
 use Rattle.farm.specs.Limits.{limits}
 use Rattle.farm.specs.declared.refusals.Refusal.{Refusal}
 use Rattle.numbers.specs.declared.read.Cursor.{Cursor}
-use Rattle.numbers.specs.declared.read.Number.{Number}
-use Rattle.numbers.specs.declared.read.Number.TheVariants.{Value, Refused}
 use Rattle.record.specs.Taking.{Taken, value}
-use Rattle.record.specs.Numbers.{take_number, take_within}
+use Rattle.record.specs.Numbers.{take_within}
 use Rattle.record.specs.Edits.{take_edit}
 use Rattle.filling.specs.Filling.{Gives}
 use Rattle.numbers.specs.Cursors.{number_at}
@@ -22,8 +21,8 @@ use Rattle.record.proofs.EditLaws.{EditTook, edit-took}
 
 -- ════ One number ════
 
-module _ (low high : ℕ) (bytes : List ℕ) (at : ℕ) (g : Gives (take_within limits low high (drop at bytes))) (n : Number) (e : n ≡ number_at bytes at) where
-  pub field-again : (v : ℕ) (next : Cursor) → n ≡ Value v next → Field low high bytes at v next.at
+module _ (low high : ℕ) (bytes : List ℕ) (at : ℕ) (g : Gives (take_within limits low high (drop at bytes))) (n : Result (ℕ × Cursor) Refusal) (e : n ≡ number_at bytes at) where
+  pub field-again : (v : ℕ) (next : Cursor) → n ≡ Ok (v, next) → Field low high bytes at v next.at
   field-again v next f =
       let was = number-was bytes at v next (sym e ∙ f) in
       let range = within-value limits low high (drop at bytes) g.what g.rest g.took in
@@ -31,11 +30,10 @@ module _ (low high : ℕ) (bytes : List ℕ) (at : ℕ) (g : Gives (take_within 
       let same : g.what ≡ v = cc in
       record { took = g.took ∙ both; inside = was.inside; above = omega arith; below = omega arith }
 
-  pub not-refused : (r : Refusal) → n ≡ Refused r → ⊥
-  unfolding number_at
+  pub not-refused : (r : Refusal) → n ≡ Err r → ⊥
   not-refused r f =
       let range = within-value limits low high (drop at bytes) g.what g.rest g.took in
-      value-not-refused g.what g.rest r (sym range.0 ∙ number-was-refused bytes (take_number limits (drop at bytes)) r (sym e ∙ f))
+      value-not-refused g.what g.rest r (sym range.0 ∙ number-was-refused bytes at r (sym e ∙ f))
 
 -- ════ The four numbers of an edit ════
 

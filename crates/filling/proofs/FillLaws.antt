@@ -1,5 +1,6 @@
 -- The second pass over a good record: each turn takes what the first pass took, and puts it in its place.
 -- Assumes nothing.
+use Rattle.std.specs.Prelude.{Ok, Result, Option, Some, None}
 use mathlib.Core.Path.{◌≡◌, refl, sym, ◌∙◌, ap, subst}
 use mathlib.Core.Bool.{Bool, true, false}
 use mathlib.Core.List.{List, [], ◌∷◌}
@@ -10,25 +11,21 @@ use lib.ListN.{length, drop, set, length-set}
 use Rattle.farm.specs.Limits.{limits}
 use Rattle.farm.specs.declared.refusals.Refusal.{Refusal}
 use Rattle.farm.specs.declared.refusals.Refusal.TheVariants.{BadOrder}
-use Rattle.parts.specs.declared.answers.Passed.{Passed}
-use Rattle.parts.specs.declared.answers.Passed.TheVariants.{To}
 use Rattle.record.specs.declared.edits.Edit.{Edit}
-use Rattle.record.specs.declared.edits.Before.{Before}
-use Rattle.record.specs.declared.edits.Before.TheVariants.{Nothing, This}
 use Rattle.record.specs.Taking.{Taken, value, refused, ◌>>=◌, when}
 use Rattle.record.specs.Numbers.{take_number}
 use Rattle.record.specs.Edits.{follows, take_edit, take_edits}
 use Rattle.filling.specs.Filling.{Gives, given, take_numbers, AllBelow, EditsFilled}
 use Rattle.record.specs.Tables.{Tables, tables, over, seats_of, times_of, cells_of, changes_of}
-use Rattle.numbers.specs.Cursors.{cursor_at}
-use Rattle.parts.specs.Parts.{passed_in}
+use Rattle.numbers.specs.declared.read.Cursor.{Cursor}
+use Rattle.numbers.specs.Cursors.{cursor_at, passed_in}
 use Rattle.record.proofs.TakingLaws.{bind-value, value-not-refused}
 use Rattle.numbers.proofs.CursorLaws.{cursor-drop, Placed}
 use Rattle.record.proofs.TableLaws.{over_none, over_first, Column, column-start, column-on, column-end}
 
--- Nothing is left to take: the place that was come to is where all that was to be taken ended.
-come-to : (bytes : List ℕ) (at : ℕ) (rest : List ℕ) (p : Passed) → at ≤ length bytes → drop at bytes ≡ rest → p ≡ To (cursor_at bytes rest)
-    → To (record { at = at }) ≡ p
+-- None is left to take: the place that was come to is where all that was to be taken ended.
+come-to : (bytes : List ℕ) (at : ℕ) (rest : List ℕ) (p : Result Cursor Refusal) → at ≤ length bytes → drop at bytes ≡ rest → p ≡ Ok (cursor_at bytes rest)
+    → Ok (record { at = at }) ≡ p
 come-to bytes at rest p inside e f = sym (f ∙ rw (← e, cursor-drop bytes at inside))
 
 -- ════ Loss sets ════
@@ -47,7 +44,7 @@ pub record SetsLeft (bytes : List ℕ) (count at i : ℕ) (old present : List �
   pub inside : at ≤ length bytes
   pub kept : length present ≡ length old
   pub same : over i left present ≡ over 0 (given (take_numbers limits count bytes)) old
-  pub ends : passed_in bytes (take_numbers limits count bytes) ≡ To (cursor_at bytes rest)
+  pub ends : passed_in bytes (take_numbers limits count bytes) ≡ Ok (cursor_at bytes rest)
 
 pub sets-start : (bytes : List ℕ) (count : ℕ) (old : List ℕ) → Gives (take_numbers limits count bytes)
     → AllBelow 65536 (given (take_numbers limits count bytes)) → SetsLeft bytes count 0 0 old old
@@ -66,7 +63,7 @@ sets-start bytes count old gives small =
     }
 
 module _ (bytes : List ℕ) (count at i : ℕ) (old present : List ℕ) (s : SetsLeft bytes count at i old present) where
-  pub sets_end : count ≤ i → (To (record { at = at }) ≡ passed_in bytes (take_numbers limits count bytes))
+  pub sets_end : count ≤ i → (Ok (record { at = at }) ≡ passed_in bytes (take_numbers limits count bytes))
       × (present ≡ over 0 (given (take_numbers limits count bytes)) old)
   unfolding take_numbers
   sets_end h =
@@ -122,24 +119,24 @@ module _ (bytes : List ℕ) (count at i : ℕ) (old present : List ℕ) (s : Set
 -- What is left to take, after an edit that the first pass compared it with, and that it makes the four lists what they are to be.
 pub record EditsLeft (bytes : List ℕ) (n R count at i : ℕ) (old present : Tables) : Type 0 where
   pub left : List Edit
-  pub before : Before
+  pub before : Option Edit
   pub rest : List ℕ
   pub took : take_edits limits n R (count - i) before (drop at bytes) ≡ value left rest
   pub within : i ≤ count
   pub inside : at ≤ length bytes
-  pub ends : passed_in bytes (take_edits limits n R count Nothing bytes) ≡ To (cursor_at bytes rest)
-  pub seats : Column i (seats_of left) (seats_of (given (take_edits limits n R count Nothing bytes))) old.seats present.seats
-  pub times : Column i (times_of left) (times_of (given (take_edits limits n R count Nothing bytes))) old.times present.times
-  pub cells : Column i (cells_of left) (cells_of (given (take_edits limits n R count Nothing bytes))) old.cells present.cells
-  pub changes : Column i (changes_of left) (changes_of (given (take_edits limits n R count Nothing bytes))) old.changes present.changes
+  pub ends : passed_in bytes (take_edits limits n R count None bytes) ≡ Ok (cursor_at bytes rest)
+  pub seats : Column i (seats_of left) (seats_of (given (take_edits limits n R count None bytes))) old.seats present.seats
+  pub times : Column i (times_of left) (times_of (given (take_edits limits n R count None bytes))) old.times present.times
+  pub cells : Column i (cells_of left) (cells_of (given (take_edits limits n R count None bytes))) old.cells present.cells
+  pub changes : Column i (changes_of left) (changes_of (given (take_edits limits n R count None bytes))) old.changes present.changes
 
-pub edits-start : (bytes : List ℕ) (n R count : ℕ) (old : Tables) → Gives (take_edits limits n R count Nothing bytes)
+pub edits-start : (bytes : List ℕ) (n R count : ℕ) (old : Tables) → Gives (take_edits limits n R count None bytes)
     → EditsLeft bytes n R count 0 0 old old
 unfolding given passed_in
 edits-start bytes n R count old gives =
     record {
       left = gives.what;
-      before = Nothing;
+      before = None;
       rest = gives.rest;
       took = rw sub-zero gives.took;
       within = omega arith;
@@ -152,12 +149,12 @@ edits-start bytes n R count old gives =
     }
 
 -- Edits that were taken come apart into the first one and the later ones.
-edits-split : (n R left : ℕ) (before : Before) (bytes : List ℕ) (edits : List Edit) (rest : List ℕ) (e : Edit) (after : List ℕ)
+edits-split : (n R left : ℕ) (before : Option Edit) (bytes : List ℕ) (edits : List Edit) (rest : List ℕ) (e : Edit) (after : List ℕ)
     → take_edits limits n R (suc left) before bytes ≡ value edits rest → take_edit limits n R bytes ≡ value e after
-    → (later : List Edit) × (edits ≡ e ∷ later) × (take_edits limits n R left (This e) after ≡ value later rest)
+    → (later : List Edit) × (edits ≡ e ∷ later) × (take_edits limits n R left (Some e) after ≡ value later rest)
 unfolding take_edits ◌>>=◌ when
 edits-split n R left before bytes edits rest e after h q =
-    by (follows before e) (take_edits limits n R left (This e) after) (rw q at h)
+    by (follows before e) (take_edits limits n R left (Some e) after) (rw q at h)
   where
     by : (good : Bool) (t : Taken (List Edit)) → (when good BadOrder t >>= (λ x. value (e ∷ x.0) x.1)) ≡ value edits rest
         → (later : List Edit) × (edits ≡ e ∷ later) × (t ≡ value later rest)
@@ -166,8 +163,8 @@ edits-split n R left before bytes edits rest e after h q =
     by false t f = absurd (value-not-refused edits rest BadOrder (sym f))
 
 module _ (bytes : List ℕ) (n R count at i : ℕ) (old present : Tables) (s : EditsLeft bytes n R count at i old present) where
-  pub edits-filled : count ≤ i → (To (record { at = at }) ≡ passed_in bytes (take_edits limits n R count Nothing bytes))
-      × EditsFilled (given (take_edits limits n R count Nothing bytes)) old present
+  pub edits-filled : count ≤ i → (Ok (record { at = at }) ≡ passed_in bytes (take_edits limits n R count None bytes))
+      × EditsFilled (given (take_edits limits n R count None bytes)) old present
   unfolding take_edits seats_of times_of cells_of changes_of
   edits-filled h =
       let none : count - i ≡ 0 = omega arith in
@@ -206,14 +203,14 @@ module _ (bytes : List ℕ) (n R count at i : ℕ) (old present : Tables) (s : E
         by w.0 w.1 w.2
       where
         by : (later : List Edit) → s.left ≡ e ∷ later
-            → take_edits limits n R (count - (i + 1)) (This e) (drop next bytes) ≡ value later s.rest
+            → take_edits limits n R (count - (i + 1)) (Some e) (drop next bytes) ≡ value later s.rest
             → EditsLeft bytes n R count next (i + 1) old
             (tables present.losses (set present.seats i e.seat.0) (set present.times i e.time.0)
             (set present.cells i e.cell) (set present.changes i e.change))
         by later front took =
             record {
               left = later;
-              before = This e;
+              before = Some e;
               rest = s.rest;
               took = took;
               within = omega arith;

@@ -1,5 +1,6 @@
 -- A good reading and its parts, as the second pass meets them.
 -- Assumes nothing.
+use Rattle.std.specs.Prelude.{Ok, Err, None}
 use mathlib.Core.Path.{◌≡◌, sym, ◌∙◌, ap, ap₂, subst}
 use mathlib.Core.Bool.{true}
 use mathlib.Core.List.{List, [], ◌∷◌, ◌++◌}
@@ -15,11 +16,8 @@ use Rattle.farm.specs.declared.places.Seat.{Seat}
 use Rattle.farm.specs.declared.refusals.Refusal.{Refusal}
 use Rattle.farm.proofs.Cases.{and-elim}
 use Rattle.numbers.specs.declared.read.Cursor.{Cursor}
-use Rattle.parts.specs.declared.answers.Passed.{Passed}
-use Rattle.parts.specs.declared.answers.Passed.TheVariants.{To, Refused as PassedRefused}
 use Rattle.record.specs.declared.header.Header.{Header}
 use Rattle.record.specs.declared.edits.Edit.{Edit}
-use Rattle.record.specs.declared.edits.Before.TheVariants.{Nothing}
 use Rattle.record.specs.Taking.{Taken, value, refused, ◌>>=◌}
 use Rattle.record.specs.Numbers.{take_number}
 use Rattle.record.specs.Header.{take_header}
@@ -28,14 +26,12 @@ use Rattle.record.specs.Edits.{take_edits}
 use Rattle.record.specs.Record.{Record, Reading, good, bad, take_record, whole, reading_of}
 use Rattle.filling.specs.Filling.{Gives, given, take_numbers, AllBelow, EditsFilled}
 use Rattle.record.specs.Tables.{Tables, over, seats_of, times_of, cells_of, changes_of, roomy, tables_after, TablesRead, Accepted}
-use Rattle.numbers.specs.Cursors.{cursor_at}
-use Rattle.parts.specs.Parts.{passed_in}
+use Rattle.numbers.specs.Cursors.{cursor_at, passed_in}
+use Rattle.numbers.proofs.CursorLaws.{passed-was-refused}
 use Rattle.record.specs.Answers.{checked_of}
-use Rattle.record.specs.declared.answers.Checked.TheVariants.{Good}
 use Rattle.record.proofs.TakingLaws.{bind-value, value-not-refused, Tail, tail-drop}
 use Rattle.record.proofs.GoodLaws.{set-facts}
 use Rattle.record.proofs.LossLaws.{set-took, rounds-tail}
-use Rattle.parts.proofs.PassedLaws.{passed-was-refused}
 use Rattle.checking.proofs.RecordLaws.{from, from_is, Head}
 
 -- ════ A good reading comes apart ════
@@ -46,7 +42,7 @@ module _ (L : Limits) where
     pub after-losses : List ℕ
     pub header : take_header L bytes ≡ value r.header after-header
     pub losses : take_rounds L r.header.seats r.header.rounds after-header ≡ value r.losses after-losses
-    pub edits : take_edits L r.header.seats r.header.rounds r.header.edits Nothing after-losses ≡ value r.edits []
+    pub edits : take_edits L r.header.seats r.header.rounds r.header.edits None after-losses ≡ value r.edits []
 
   whole-good : (t : Taken Record) (r : Record) → whole t ≡ good r → t ≡ value r []
   unfolding whole
@@ -59,7 +55,7 @@ module _ (L : Limits) where
   good-parts bytes r e =
       let x = bind-value (take_header L bytes) _ r [] (whole-good _ r e) in
       let y = bind-value (take_rounds L x.0.seats x.0.rounds x.1) _ r [] x.3 in
-      let z = bind-value (take_edits L x.0.seats x.0.rounds x.0.edits Nothing y.1) _ r [] y.3 in
+      let z = bind-value (take_edits L x.0.seats x.0.rounds x.0.edits None y.1) _ r [] y.3 in
       let made : record { header = x.0; losses = y.0; edits = z.0 } ≡ r = cc in
       let ends : z.1 ≡ [] = cc in
       subst (λ (w : Record). Parts bytes w) made
@@ -136,7 +132,7 @@ pub record Ready (bytes : List ℕ) (h : Header) (at : ℕ) (r : Record) : Type 
   pub numbers : take_numbers limits (h.rounds * h.seats) (from at bytes) ≡ value r.losses after-losses
   pub tail : Tail after-losses (from at bytes)
   pub small : AllBelow 65536 r.losses
-  pub edits : take_edits limits h.seats h.rounds h.edits Nothing after-losses ≡ value r.edits []
+  pub edits : take_edits limits h.seats h.rounds h.edits None after-losses ≡ value r.edits []
   pub count : h.rounds * h.seats ≤ 889
 
 pub ready : (bytes : List ℕ) (h : Header) (at : ℕ) (a : Accepted (reading_of limits bytes)) → Head bytes h at → Ready bytes h at a.what
@@ -147,10 +143,10 @@ ready bytes h at a head =
     let after : p.after-header ≡ from at bytes = cc in
     by p.after-losses
     (ap₂ (λ (g : Header) (l : List ℕ). take_rounds limits g.seats g.rounds l) (sym same) (sym after) ∙ p.losses)
-    (ap (λ (g : Header). take_edits limits g.seats g.rounds g.edits Nothing p.after-losses) (sym same) ∙ p.edits)
+    (ap (λ (g : Header). take_edits limits g.seats g.rounds g.edits None p.after-losses) (sym same) ∙ p.edits)
   where
     by : (rest : List ℕ) → take_rounds limits h.seats h.rounds (from at bytes) ≡ value a.what.losses rest
-        → take_edits limits h.seats h.rounds h.edits Nothing rest ≡ value a.what.edits []
+        → take_edits limits h.seats h.rounds h.edits None rest ≡ value a.what.edits []
         → Ready bytes h at a.what
     by rest e f =
         let numbers = rounds-numbers limits h.seats h.rounds (from at bytes) a.what.losses rest e in
@@ -167,38 +163,37 @@ ready bytes h at a head =
 -- Where the edits begin, once the loss sets are in their table.
 pub record EditsReady (bytes : List ℕ) (h : Header) (at next : ℕ) (r : Record) : Type 0 where
   pub inside : next ≤ length (from at bytes)
-  pub edits : take_edits limits h.seats h.rounds h.edits Nothing (from next (from at bytes)) ≡ value r.edits []
+  pub edits : take_edits limits h.seats h.rounds h.edits None (from next (from at bytes)) ≡ value r.edits []
 
-pub edits-ready : (bytes : List ℕ) (h : Header) (at : ℕ) (passed : Passed) (next : Cursor) (r : Record) → Ready bytes h at r
-    → passed ≡ passed_in (from at bytes) (take_numbers limits (h.rounds * h.seats) (from at bytes)) → passed ≡ To next
-    → EditsReady bytes h at next.at r
+pub edits-ready : (bytes : List ℕ) (h : Header) (at : ℕ) (next : Cursor) (r : Record) → Ready bytes h at r
+    → Ok next ≡ passed_in (from at bytes) (take_numbers limits (h.rounds * h.seats) (from at bytes)) → EditsReady bytes h at next.at r
 unfolding passed_in
-edits-ready bytes h at passed next r w e f =
-    let place : To next ≡ To (cursor_at (from at bytes) w.after-losses) = sym f ∙ e ∙ ap (passed_in (from at bytes)) w.numbers in
+edits-ready bytes h at next r w e =
+    let place : Ok next ≡ Ok (cursor_at (from at bytes) w.after-losses) = e ∙ ap (passed_in (from at bytes)) w.numbers in
     let where_next : next ≡ cursor_at (from at bytes) w.after-losses = cc in
     let at_next : next.at ≡ length (from at bytes) - length w.after-losses = ap (λ (c : Cursor). c.at) where_next in
     record {
       inside = omega arith;
       edits =
-          ap (λ (l : List ℕ). take_edits limits h.seats h.rounds h.edits Nothing l)
+          ap (λ (l : List ℕ). take_edits limits h.seats h.rounds h.edits None l)
           (from_is next.at (from at bytes) ∙ ap (λ (k : ℕ). drop k (from at bytes)) at_next ∙ tail-drop w.tail)
           ∙ w.edits;
     }
 
 -- A part that gives a value is not refused.
-pub part-not-refused : {A : Type 0} (bytes : List ℕ) (t : Taken A) (a : A) (rest : List ℕ) (passed : Passed) (x : Refusal) → t ≡ value a rest
-    → passed ≡ passed_in bytes t → passed ≡ PassedRefused x → ⊥
-part-not-refused bytes t a rest passed x e p f = value-not-refused a rest x (sym e ∙ passed-was-refused bytes t x (sym p ∙ f))
+pub part-not-refused : {A : Type 0} (bytes : List ℕ) (t : Taken A) (a : A) (rest : List ℕ) (x : Refusal) → t ≡ value a rest
+    → Err x ≡ passed_in bytes t → ⊥
+part-not-refused bytes t a rest x e p = value-not-refused a rest x (sym e ∙ passed-was-refused bytes t x (sym p))
 
 -- The answer of a good reading has the header that was read.
 pub good-answer : (bytes : List ℕ) (h : Header) (at : ℕ) (a : Accepted (reading_of limits bytes)) → Head bytes h at
-    → Good h ≡ checked_of (reading_of limits bytes)
+    → Ok h ≡ checked_of (reading_of limits bytes)
 unfolding checked_of
 good-answer bytes h at a head =
     let p = good-parts limits bytes a.what a.is in
     let met : value h (from at bytes) ≡ value a.what.header p.after-header = sym head.took ∙ p.header in
     let same : h ≡ a.what.header = cc in
-    rw a.is (ap Good same)
+    rw a.is (ap Ok same)
 
 -- ════ Room ════
 

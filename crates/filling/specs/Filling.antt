@@ -3,12 +3,7 @@ use Rattle.std.specs.Prelude.{◌≡◌, List, [], ◌∷◌, ℕ, zero, suc, �
 use Rattle.farm.specs.Limits.{Limits}
 use Rattle.record.specs.Taking.{Taken, value, refused, ◌>>=◌}
 use Rattle.record.specs.Numbers.{take_number}
-use Rattle.record.specs.declared.header.Header.{Header}
 use Rattle.record.specs.declared.edits.Edit.{Edit}
-use Rattle.record.specs.declared.answers.Checked.{Checked}
-use Rattle.record.specs.declared.answers.Checked.TheVariants.{Good, Refused}
-use Rattle.parts.specs.declared.answers.Passed.{Passed}
-use Rattle.parts.specs.declared.answers.Passed.TheVariants.{To, Refused as PassedRefused}
 use Rattle.record.specs.Tables.{Tables, over, seats_of, times_of, cells_of, changes_of}
 
 -- A taking that gives a value.
@@ -40,8 +35,3 @@ pub record EditsFilled (edits : List Edit) (before after : Tables) : Type 0 wher
   pub times : after.times ≡ over 0 (times_of edits) before.times
   pub cells : after.cells ≡ over 0 (cells_of edits) before.cells
   pub changes : after.changes ≡ over 0 (changes_of edits) before.changes
-
--- A record with this header whose last part was gone through to its end, or refused.
-abbrev pub checked_to : Header → Passed → Checked
-checked_to h (To next) = Good h
-checked_to h (PassedRefused x) = Refused x

@@ -7,25 +7,17 @@ use checking::whole::check;
 use farm::limits::{TABLE_EDITS, TABLE_LOSS_SETS};
 use farm::refusals::Refusal;
 use filling::fill::fill;
-use record::answers::Checked;
+use record::header::Header;
 
 // Whether tables of so many entries have room for any record.
 fn has_room(losses: usize, seats: usize, times: usize, cells: usize, changes: usize) -> bool
     ensures { result ≡ room_for losses seats times cells changes }
 {
-    if losses < TABLE_LOSS_SETS {
-        return false;
-    }
-    if seats < TABLE_EDITS {
-        return false;
-    }
-    if times < TABLE_EDITS {
-        return false;
-    }
-    if cells < TABLE_EDITS {
-        return false;
-    }
-    TABLE_EDITS <= changes
+    TABLE_LOSS_SETS <= losses
+        && TABLE_EDITS <= seats
+        && TABLE_EDITS <= times
+        && TABLE_EDITS <= cells
+        && TABLE_EDITS <= changes
 }
 
 // Entries past the used ones stay, and a refusal changes none.
@@ -36,7 +28,7 @@ pub fn read(
     times: &mut [u16],
     cells: &mut [u32],
     changes: &mut [i16],
-) -> Checked
+) -> Result<Header, Refusal>
     ensures { ReadOutcome bytes.now (tables losses.old seats.old times.old cells.old changes.old) result (tables losses.new seats.new times.new cells.new changes.new) }
 {
     if !has_room(
@@ -46,11 +38,8 @@ pub fn read(
         cells.len(),
         changes.len(),
     ) {
-        return Checked::Refused(Refusal::NoRoom);
+        return Err(Refusal::NoRoom);
     }
-    let checked = check(bytes);
-    let Checked::Good(_) = checked else {
-        return checked;
-    };
+    check(bytes)?;
     fill(bytes, losses, seats, times, cells, changes)
 }

@@ -1,19 +1,21 @@
 -- Marks and counts of edits over the two lists of their places, edit by edit.
 -- Assumes nothing.
-use mathlib.Core.Path.{◌≡◌, refl}
+use mathlib.Core.Path.{◌≡◌, refl, ◌∙◌}
 use mathlib.Core.Logic.{◌⊎◌, inl, inr}
 use mathlib.Core.Bool.{Bool, true, false, cond}
-use mathlib.Core.List.{List, [], ◌∷◌}
-use Prim.Native.Nat.{ℕ, ◌+◌, ◌≤◌}
+use mathlib.Core.List.{List, [], ◌∷◌, ◌++◌}
+use Prim.Native.Nat.{ℕ, ◌+◌, ◌<◌, ◌≤◌}
 use native.Mathlib.Omega.{arith}
 use lib.Dec.{ltb}
-use lib.ListN.{length}
+use lib.ListN.{length, take, drop, set}
 use Rattle.farm.specs.declared.places.Seat.{Seat}
 use Rattle.farm.specs.declared.places.Time.{Time}
 use Rattle.knowledge.specs.Farm.{seat, time}
 use Rattle.knowledge.specs.Views.{View}
 use Rattle.knowledge.specs.Settled.{has_place}
+use Rattle.telling.specs.Laid.{laid}
 use Rattle.telling.specs.Marks.{mark_at, marks_in, count_in}
+use Rattle.telling.proofs.LaidLaws.{laid-one}
 
 -- ════ One mark ════
 
@@ -51,10 +53,13 @@ count-none v (s ∷ seats) [] none = refl
 count-none v (s ∷ seats) (t ∷ times) (inl e) = absurd cc
 count-none v (s ∷ seats) (t ∷ times) (inr e) = absurd cc
 
-pub marks-one : (v : View) (s t : ℕ) (seats times all when : List ℕ) → all ≡ s ∷ seats → when ≡ t ∷ times
-    → marks_in v all when ≡ mark_at v (seat s) (time t) ∷ marks_in v seats times
+-- The mark of the first of them is put in its place: what was laid, and what is left to lay, make the same.
+pub mark-laid : (v : View) (s t : ℕ) (seats times all when now total : List ℕ) (i j k x : ℕ) → all ≡ s ∷ seats → when ≡ t ∷ times
+    → j ≡ i → k ≡ i + 1 → x ≡ mark_at v (seat s) (time t) → i < length now → take i now ++ laid (marks_in v all when) (drop i now) ≡ total
+    → take k (set now j x) ++ laid (marks_in v seats times) (drop k (set now j x)) ≡ total
 unfolding marks_in
-marks-one v s t seats times all when es et = rw (es, et) refl
+mark-laid v s t seats times all when now total i j k x es et ej ek ex h e =
+    rw (ej, ek, ex) (laid-one i (marks_in v seats times) now (mark_at v (seat s) (time t)) h ∙ (rw (es, et) at e))
 
 pub marks-none : (v : View) (seats times : List ℕ) → (seats ≡ []) ⊎ (times ≡ []) → marks_in v seats times ≡ []
 unfolding marks_in

@@ -2,12 +2,10 @@
 -- Assumes nothing.
 use Rattle.filling.proofs.FillLaws.{EditsLeft}
 use Rattle.record.specs.Tables.{tables}
-use Prim.Native.Nat.{◌-◌}
-use mathlib.Core.List.{[]}
+use Rattle.std.proofs.Common.{[]}
 use Rattle.filling.proofs.fill.fill_edits.Given as goal
 
 abbrev pub invariant-loop-i : goal.invariant-loop-i
-invariant-loop-i l = EditsLeft l.bytes l.n l.rounds l.count l.at l.i (tables [] l.initial.seats l.initial.times l.initial.cells l.initial.changes) (tables [] l.seats l.times l.cells l.changes)
-
-abbrev pub decreases-loop-i : goal.decreases-loop-i
-decreases-loop-i l = l.count - l.i
+invariant-loop-i l =
+    EditsLeft l.bytes l.n l.rounds l.count l.at.at l.i
+    (tables [] l.initial.seats l.initial.times l.initial.cells l.initial.changes) (tables [] l.seats l.times l.cells l.changes)

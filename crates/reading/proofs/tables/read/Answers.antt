@@ -2,6 +2,7 @@
 -- Assumes nothing.
 use Rattle.reading.proofs.ReadLaws.{no_room, refused-reading, accepted-reading, good-reading}
 use Rattle.record.specs.Tables.{roomy}
+use Rattle.record.proofs.RefusalLaws.{handed_up}
 use mathlib.Core.Path.{sym, ◌∙◌}
 use Rattle.reading.proofs.tables.read.Goals as goal
 
@@ -10,13 +11,14 @@ unfolding roomy
 returns-then-not-has_room c = no_room _ _ (sym c.has_room.ensures ∙ c.if-not-has_room.true)
 
 -- The tables at the call have room once the test is passed.
-pub returns-in_default : goal.returns-in_default
+pub returns-in_err-check : goal.returns-in_err-check
 unfolding roomy
-returns-in_default c = refused-reading _ _ _ _ (sym c.has_room.ensures ∙ c.if-not-has_room.false) c.check-checked.ensures c.in_default.is
+returns-in_err-check c =
+    rw (handed_up _ _ c.from_residual.ensures.1) (refused-reading _ _ _ (sym c.has_room.ensures ∙ c.if-not-has_room.false) c.in_err-check.ensures)
 
 pub fill-requires : goal.fill-requires
 unfolding roomy
-fill-requires c = (accepted-reading _ _ _ c.check-checked.ensures c.in-Good.is, sym c.has_room.ensures ∙ c.if-not-has_room.false)
+fill-requires c = (accepted-reading _ _ c.in_ok-check.ensures, sym c.has_room.ensures ∙ c.if-not-has_room.false)
 
 pub returns : goal.returns
 unfolding roomy

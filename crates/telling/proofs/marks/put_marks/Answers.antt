@@ -1,15 +1,11 @@
 -- `telling::marks::put_marks` meets its contract: each mark is laid in its place.
 -- Assumes nothing.
-use Rattle.telling.proofs.LaidLaws.{laid-one}
-use Rattle.telling.proofs.MarkLaws.{marks-one, marks-none}
-use Rattle.telling.specs.Laid.{laid}
+use Rattle.telling.proofs.MarkLaws.{mark-laid, marks-none}
 use Rattle.viewing.specs.Counts.{held}
 use Rattle.std.proofs.lemmas.List.{take-append-drop}
 use Rattle.std.proofs.lemmas.Slice.Zip.{either_empty_from_Zip}
-use Rattle.std.specs.Iterator.Adapters.{enumerate_source, enumerate_count}
-use lib.ListN.{length, take, drop}
-use mathlib.Core.List.{List, ◌++◌}
-use Prim.Native.Nat.{ℕ}
+use Rattle.std.specs.Iterator.Adapters.{enumerate_source}
+use lib.ListN.{length}
 use native.Mathlib.Omega.{arith}
 use mathlib.Core.Path.{refl, sym, ◌∙◌, ap}
 use Rattle.telling.proofs.marks.put_marks.Goals as goal
@@ -18,18 +14,13 @@ pub loop-edit-preserved : goal.loop-edit-preserved
 loop-edit-preserved c =
     let s = c.in-Some.ensures.steps in
     let l = c.loop-edit.invariant in
-    let short = ap length s.0.0 in (
-      omega arith,
-      rw (s.2, s.1, c.mark_of.ensures)
-          (laid-one _ _ c.loop-edit.out _ (omega arith)
-          ∙ ap (λ (m : List ℕ). take (enumerate_count c.loop-edit.edit-iterator) c.loop-edit.out ++ laid m (drop (enumerate_count c.loop-edit.edit-iterator) c.loop-edit.out))
-          (sym (marks-one (held c.args.core.now) _ _ _ _ _ _ s.0.0 s.0.1))
-          ∙ l.1),
-    )
+    let short = ap length s.0.0 in
+    (omega arith, mark-laid (held c.args.core.now) _ _ _ _ _ _ c.loop-edit.out _ _ _ _ _ s.0.0 s.0.1 s.1 s.2 c.mark_of.ensures (omega arith) l.1)
 
 pub returns : goal.returns
 returns c =
-    let pairs = enumerate_source c.loop-edit.edit-iterator in
-    let none = marks-none (held c.args.core.now) _ _ (either_empty_from_Zip pairs (enumerate_source c.next.new.self) _ refl c.in-None.ensures.steps.0) in
+    let none =
+    marks-none (held c.args.core.now) _ _
+    (either_empty_from_Zip (enumerate_source c.loop-edit.edit-iterator) (enumerate_source c.next.new.self) _ refl c.in-None.ensures.steps.0) in
     let all = rw none at c.loop-edit.invariant.1 in
     sym (take-append-drop _ c.loop-edit.out) ∙ all
