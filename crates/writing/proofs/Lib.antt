@@ -1,4 +1,4 @@
 pub mod SizeLaws
 pub mod CountingLaws
-pub mod OutcomeLaws
+pub mod PuttingLaws
 pub mod CompleteLaws

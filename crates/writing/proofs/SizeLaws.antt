@@ -1,39 +1,31 @@
--- The bytes of lists from a place of them on.
+-- How large accepted lists are, as lists and as bytes.
 -- Assumes nothing.
 use mathlib.Core.Path.{◌≡◌}
-use mathlib.Core.List.{List, [], ◌++◌}
-use Prim.Native.Nat.{ℕ, ◌+◌, ◌<◌, ◌≤◌}
-use native.Mathlib.Numerals.{add-one}
-use lib.IntN.{ℤ}
-use lib.ListN.{length, get_or, drop, drop_of_length-le}
-use lib.Seq.{drop-cons}
-use Rattle.farm.specs.Limits.{Limits}
-use Rattle.farm.specs.Sets.{Seats}
-use Rattle.record.specs.Numbers.{number_bytes}
-use Rattle.record.specs.Losses.{loss_bytes}
-use Rattle.record.specs.Edits.{edit_bytes, edits_bytes}
-use Rattle.judging.proofs.JudgingLaws.{Place, edit_at, edits_after, edits-next, edits-done}
+use Prim.Native.Nat.{◌+◌, ◌*◌, ◌≤◌}
+use lib.ListN.{length}
+use Rattle.farm.specs.Limits.{limits}
+use Rattle.record.specs.declared.lists.Lists.{Lists}
+use Rattle.record.specs.Header.{header_bytes}
+use Rattle.record.specs.Lengths.{numbers_length, changes_length}
+use Rattle.record.specs.Lent.{tables_in, verdict_on, record_in}
+use Rattle.record.specs.Record.{bytes_of}
+use Rattle.record.specs.Writing.{accepted, header_from}
+use Rattle.record.proofs.AcceptedLaws.{accepted-header, accepted-sets-few, accepted-parts, accepted-most, accepted-size}
 
--- ════ Loss sets ════
+pub record Sizes (l : Lists) : Type 0 where
+  pub edits : length l.editors.now ≤ 512
+  pub sets : length l.losses.now ≤ 889
+  -- Every loss set, seat and time takes one byte.
+  pub parts : length (bytes_of limits (record_in l))
+      ≡ length (header_bytes limits (header_from l.seats l.bound l.rounds (tables_in l))) + (length l.losses.now + 2 * length l.editors.now) + numbers_length limits l.cells.now + changes_length limits l.changes.now
+  pub most : length (bytes_of limits (record_in l)) ≤ 5 + length l.losses.now + 8 * length l.editors.now
+  pub whole : length (bytes_of limits (record_in l)) ≤ 4990
 
-module _ (L : Limits) (i : ℕ) (losses : List Seats) where
-  pub losses-next : i < length losses → loss_bytes L (drop i losses) ≡ number_bytes L (get_or losses i 0) ++ loss_bytes L (drop (i + 1) losses)
-  unfolding loss_bytes
-  losses-next h = rw (add-one, drop-cons losses i 0 h, loss_bytes)
-
-  pub losses-done : length losses ≤ i → loss_bytes L (drop i losses) ≡ []
-  unfolding loss_bytes
-  losses-done h = rw (drop_of_length-le losses h)
-
--- ════ Edits ════
-
-module _ (L : Limits) (i : ℕ) (seats times cells : List ℕ) (changes : List ℤ) where
-  pub edits-bytes-next : Place i seats times cells changes
-      → edits_bytes L (edits_after i seats times cells changes)
-      ≡ edit_bytes L (edit_at i seats times cells changes) ++ edits_bytes L (edits_after (i + 1) seats times cells changes)
-  unfolding edits_bytes
-  edits-bytes-next p = rw (edits-next i seats times cells changes p, edits_bytes)
-
-  pub edits-bytes-done : length seats ≤ i → edits_bytes L (edits_after i seats times cells changes) ≡ []
-  unfolding edits_bytes
-  edits-bytes-done h = rw (edits-done i seats times cells changes h)
+pub sizes : (l : Lists) → verdict_on l ≡ accepted → Sizes l
+sizes l v = record {
+  edits = (accepted-header l.seats l.bound l.rounds (tables_in l) v).edits;
+  sets = accepted-sets-few l.seats l.bound l.rounds (tables_in l) v;
+  parts = accepted-parts l.seats l.bound l.rounds (tables_in l) v;
+  most = accepted-most l.seats l.bound l.rounds (tables_in l) v;
+  whole = accepted-size l.seats l.bound l.rounds (tables_in l) v;
+}

@@ -1,27 +1,26 @@
 -- `writing::lists::length` meets its contract: the refusal of the judgement goes up unchanged, and the length of accepted lists is the record's.
 -- Assumes nothing.
-use mathlib.Core.Path.{sym, ◌∙◌, ap}
+use mathlib.Core.Path.{◌≡◌, sym}
+use borrow.Author.Rules.{rules}
+use Rattle.std.specs.Prelude.{Err}
 use Rattle.farm.specs.Limits.{limits}
-use Rattle.record.specs.declared.answers.Written.TheVariants.{Length}
-use Rattle.record.specs.Writing.{lists_of}
 use Rattle.record.specs.Answers.{written_in}
+use Rattle.record.specs.Lent.{tables_in}
 use Rattle.record.proofs.AcceptedLaws.{answer-accepted, answer-refused, needed-refused, needed-accepted}
 use Rattle.writing.proofs.lists.length.Goals as goal
 
-pub returns-in-Refused : goal.returns-in-Refused
+pub returns-in_err-judge : goal.returns-in_err-judge
 unfolding written_in
-returns-in-Refused c =
-    let a = c.args in
-    let lists = lists_of a.losses.now a.editors.now a.times.now a.cells.now a.changes.now in
-    sym (ap written_in (needed-refused limits a.seats a.bound a.rounds lists _ (answer-refused _ _ (sym c.judge-judged.ensures ∙ c.in-Refused.is))))
+returns-in_err-judge c =
+    let l = c.args.lists in
+    let up : c.from_residual.result ≡ Err c.in_err-judge.field-0.0 = search rules in
+    rw (up, needed-refused limits l.seats l.bound l.rounds (tables_in l) _ (answer-refused _ _ (sym c.in_err-judge.ensures)))
 
-pub accepted_length-count-requires : goal.accepted_length-count-requires
-accepted_length-count-requires c = answer-accepted _ (sym c.judge-judged.ensures ∙ c.in_default.is)
+pub accepted_length-requires : goal.accepted_length-requires
+accepted_length-requires c = answer-accepted _ (sym c.in_ok-judge.ensures)
 
 pub returns : goal.returns
 unfolding written_in
 returns c =
-    let a = c.args in
-    let lists = lists_of a.losses.now a.editors.now a.times.now a.cells.now a.changes.now in
-    let v = answer-accepted _ (sym c.judge-judged.ensures ∙ c.in_default.is) in
-    ap Length c.accepted_length-count.ensures ∙ sym (ap written_in (needed-accepted limits a.seats a.bound a.rounds lists v))
+    let l = c.args.lists in
+    rw (c.accepted_length.ensures, needed-accepted limits l.seats l.bound l.rounds (tables_in l) (answer-accepted _ (sym c.in_ok-judge.ensures)))

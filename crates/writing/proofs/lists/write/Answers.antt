@@ -1,42 +1,38 @@
 -- `writing::lists::write` meets its contract: a refusal goes up unchanged with the buffer untouched, and the record's bytes are put where there is room for all of them.
 -- Assumes nothing.
-use mathlib.Core.Path.{sym, ◌∙◌}
+use mathlib.Core.Path.{◌≡◌, refl, sym, ◌∙◌, ap}
+use native.Mathlib.Nat.{zero-add}
+use borrow.Author.Rules.{rules}
 use borrow.Author.Tests.{leb-true}
-use Rattle.farm.specs.Limits.{limits}
-use Rattle.record.specs.Writing.{lists_of}
+use Rattle.std.specs.Prelude.{Ok, Err}
+use Rattle.record.specs.Answers.{written_in}
+use Rattle.record.specs.Writing.{judged, checked_lists, answered, written_to, buffer_with, buffer_after}
 use Rattle.record.proofs.AcceptedLaws.{answer-accepted, answer-refused}
-use Rattle.writing.proofs.OutcomeLaws.{refused-outcome, no-room-outcome, written-outcome}
 use Rattle.writing.proofs.lists.write.Goals as goal
 
-pub returns-in-Refused : goal.returns-in-Refused
-returns-in-Refused c =
-    let a = c.args in
-    let lists = lists_of a.losses.now a.editors.now a.times.now a.cells.now a.changes.now in
-    let o = refused-outcome limits a.seats a.bound a.rounds lists _ a.out.now (answer-refused _ _ (sym c.judge-judged.ensures ∙ c.in-Refused.is)) in
-    (o.answers, o.leaves)
+pub returns-in_err-judge : goal.returns-in_err-judge
+unfolding written_in written_to answered buffer_after buffer_with checked_lists judged
+returns-in_err-judge c =
+    let v = answer-refused _ _ (sym c.in_err-judge.ensures) in
+    let up : c.from_residual.result ≡ Err c.in_err-judge.field-0.0 = search rules in
+    rw (up, v) (refl, refl)
 
 pub has_room-requires : goal.has_room-requires
-has_room-requires c = answer-accepted _ (sym c.judge-judged.ensures ∙ c.in_default.is)
+has_room-requires c = answer-accepted _ (sym c.in_ok-judge.ensures)
 
 pub returns-then-not-has_room : goal.returns-then-not-has_room
+unfolding written_in written_to answered buffer_after buffer_with checked_lists judged
 returns-then-not-has_room c =
-    let a = c.args in
-    let lists = lists_of a.losses.now a.editors.now a.times.now a.cells.now a.changes.now in
-    let v = answer-accepted _ (sym c.judge-judged.ensures ∙ c.in_default.is) in
-    let o = no-room-outcome limits a.seats a.bound a.rounds lists v a.out.now (sym c.has_room.ensures ∙ c.if-not-has_room.true) in
-    (o.answers, o.leaves)
+    let v = answer-accepted _ (sym c.in_ok-judge.ensures) in
+    let small = sym c.has_room.ensures ∙ c.if-not-has_room.true in
+    rw (v, small) (refl, refl)
 
-pub put_record-end-requires : goal.put_record-end-requires
-put_record-end-requires c =
-    let a = c.args in
-    let lists = lists_of a.losses.now a.editors.now a.times.now a.cells.now a.changes.now in
-    let v = answer-accepted _ (sym c.judge-judged.ensures ∙ c.in_default.is) in
-    (v, leb-true _ _ (sym c.has_room.ensures ∙ c.if-not-has_room.false))
+pub put_record-requires : goal.put_record-requires
+put_record-requires c = (answer-accepted _ (sym c.in_ok-judge.ensures), leb-true _ _ (sym c.has_room.ensures ∙ c.if-not-has_room.false))
 
 pub returns : goal.returns
+unfolding written_in written_to answered buffer_after buffer_with checked_lists judged
 returns c =
-    let a = c.args in
-    let lists = lists_of a.losses.now a.editors.now a.times.now a.cells.now a.changes.now in
-    let v = answer-accepted _ (sym c.judge-judged.ensures ∙ c.in_default.is) in
-    let o = written-outcome limits a.seats a.bound a.rounds lists v a.out.now _ _ (sym c.has_room.ensures ∙ c.if-not-has_room.false) c.put_record-end.ensures in
-    (o.answers, o.leaves)
+    let v = answer-accepted _ (sym c.in_ok-judge.ensures) in
+    let room = sym c.has_room.ensures ∙ c.if-not-has_room.false in
+    rw (v, room) (ap Ok (c.put_record.ensures.ends ∙ zero-add _), c.put_record.ensures.holds)
