@@ -5,6 +5,10 @@ use mathlib.Core.Bool.{Bool, true, false}
 use mathlib.Core.List.{List}
 use Prim.Native.Nat.{ℕ, ◌*◌, ◌≤◌, ◌<◌}
 use native.Mathlib.Omega.{arith}
+use lib.IntN.{ℤ}
+use Rattle.std.specs.Prelude.{Result, Ok, Err}
+use Rattle.std.specs.Result.{IsErrAnd}
+use Rattle.std.proofs.lemmas.Result.{err_from_is_err_and}
 use lib.ListN.{length, take, length-take}
 use Rattle.farm.specs.Limits.{limits}
 use Rattle.farm.specs.Sets.{Seats, bit}
@@ -20,26 +24,24 @@ use Rattle.viewing.specs.Counts.{farm_for}
 use Rattle.construction.proofs.Looks.{view-same, known-of-same, outcome-same, losers-same, used-losses}
 use Rattle.record.specs.declared.header.Header.{Header}
 use Rattle.record.specs.declared.edits.Edit.{Edit}
-use Rattle.record.specs.declared.answers.Checked.{Checked}
-use Rattle.record.specs.declared.answers.Checked.TheVariants.{Good, Refused}
 use Rattle.record.specs.Taking.{IsBytes}
 use Rattle.record.specs.Record.{Record, Reading, good, bad}
 use Rattle.record.specs.Document.{reading_of}
 use Rattle.record.specs.Answers.{checked_of, judged_in}
 use Rattle.record.specs.Tables.{Tables, seats_of, times_of}
-use Rattle.record.specs.declared.answers.Judged.{Judged}
-use Rattle.record.specs.declared.answers.Judged.TheVariants as judged-as
 use Rattle.record.specs.Writing.{judged_lists, record_from, checked_lists, header_from}
 use Rattle.record.proofs.WritingLaws.{lists-accepted}
 use lib.Seq.{take_all, take-length}
 use Rattle.record.proofs.GoodLaws.{record-facts}
 use Rattle.record.proofs.ColumnLaws.{take-over, length-seats, length-times}
 use Rattle.record.proofs.WrittenAgain.{reading-again}
-use Rattle.questions.specs.Accepted.{core_in, marks_on}
-use Rattle.questions.specs.Answers.{agreed_from, seen_answer, agreed_answer, given_answer, into, Fills, seen_asked, agreed_asked}
-use Rattle.questions.specs.declared.answers.Given.{Given}
-use Rattle.carriers.specs.Carried.{Holds, Carried, Fitting, Loaded, Sized, on_checked, view_for, known_for, core_for, loser_for, agreed_for, marks_for}
-use Rattle.questions.specs.Question.{Asked, found, refused, Lent, by_value, fits, is_place, provided, looking, of_outcome, on_record, farm_of_record, view_in, known_in, loser_in, settled_in, view_asked, core_asked, marks_asked, loser_asked, count_of}
+use Rattle.questions.specs.Accepted.{Accepted, core_in, marks_on}
+use Rattle.questions.specs.Answers.{agreed_from, seen_answer, agreed_answer, given_answer, into, Fills, standing_answer, seen_asked, agreed_asked}
+use Rattle.questions.specs.declared.answers.Seen.{Seen}
+use Rattle.questions.specs.declared.answers.Agreed.{Agreed}
+use Rattle.questions.specs.declared.answers.Standing.{Standing}
+use Rattle.carriers.specs.Carried.{Holds, Carried, Fitting, view_for, known_for, core_for, loser_for, agreed_for, marks_for}
+use Rattle.questions.specs.Question.{Asked, found, refused, Lent, by_value, fits, is_place, provided, looking, of_outcome, on_record, farm_of_record, view_in, known_in, loser_in, settled_in, view_asked, known_asked, core_asked, marks_asked, loser_asked, count_of}
 use Rattle.carriers.specs.Loading.{sizes_of, losses_left, seats_left, times_left}
 use Rattle.knowledge.specs.Views.{View, latest_times}
 use Rattle.questions.proofs.AskLaws.{place-below}
@@ -113,69 +115,127 @@ unfolding agreed_from looking
 agreed-parts n edits (found s) = rw (count-of-edits s.core edits) refl
 agreed-parts n edits (refused r) = refl
 
-module _ {reading : Reading} {checked : Checked} {table who when : List ℕ} (c : Carried reading checked table who when) where
-  pub loaded : Loaded checked who when
-  unfolding checked_of
-  loaded h e = by reading refl (sym c.told ∙ e)
-    where
-      by : (r : Reading) → reading ≡ r → checked_of r ≡ Good h → Fitting h who when
-      by (good w) is f = let same : w.header ≡ h = cc in rw (← same) (fitting w table who when (c.holds w is))
-      by (bad x) is f = let z : ◌≡◌ {A = ℕ} 0 1 = cc in absurd (omega arith)
-
-  pub sized : Sized checked
-  sized h e = (loaded h e).sizes
-
-  -- One law for every question.
-  on-carried : {A : Type 0} (on : Header → Asked A) (ask : Record → Asked A) → ((w : Record) → Holds w table who when → on w.header ≡ ask w)
-      → on_checked checked on ≡ on_record reading ask
-  unfolding checked_of on_checked on_record
-  on-carried on ask alike = rw c.told (by reading refl)
-    where
-      by : (r : Reading) → reading ≡ r → on_checked (checked_of r) on ≡ on_record r ask
-      by (good w) is = alike w (c.holds w is)
-      by (bad x) is = refl
-
-  module _ (p : Seat) (ℓ : Time) where
-    pub view-carried : (lent : Lent) → view_for lent checked table p ℓ ≡ view_asked lent reading p ℓ
-    view-carried lent = on-carried _ _ (λ w held. view-alike w table who when held lent p ℓ)
-
-    pub seen-carried : seen_answer (view_for by_value checked table p ℓ) (known_for checked table p ℓ) ≡ seen_asked reading p ℓ
-    seen-carried = ap₂ seen_answer (view-carried by_value) (on-carried _ _ (λ w held. known_alike w table who when held p ℓ))
-
-    pub core-carried : (lent : Lent) → core_for lent checked table p ℓ ≡ core_asked lent reading p ℓ
-    unfolding core_in
-    core-carried lent = on-carried _ _ (λ w held. ap (looking _) (settled-alike w table who when held lent _ p ℓ))
-
-    pub marks-carried : (lent : Lent) → marks_for lent checked table who when p ℓ ≡ marks_asked lent reading p ℓ
-    unfolding marks_on
-    marks-carried lent = on-carried _ _ (λ w held.
-        ap (looking _) (settled-alike w table who when held lent _ p ℓ)
-        ∙ marks-asked w _ _ (sym held.seats) (sym held.times) p ℓ lent)
-
-    pub agreed-carried : agreed_for checked table who when p ℓ ≡ agreed_asked reading p ℓ
-    unfolding checked_of agreed_for on_record settled_in fits
-    agreed-carried = rw c.told (by reading refl)
-      where
-        by : (r : Reading) → reading ≡ r → agreed_for (checked_of r) table who when p ℓ ≡ agreed_asked r p ℓ
-        by (good w) is =
-            let held = c.holds w is in
-            rw (held.seats, held.times, settled-alike w table who when held by_value 0 p ℓ) (agreed-parts w.header.seats w.edits _)
-        by (bad x) is = refl
-
-  pub standing-carried : (p : Seat) → loser_for checked table p ≡ loser_asked reading p
-  standing-carried p = on-carried _ _ (λ w held. loser-alike w table who when held p)
-
 -- Into a buffer: questions alike leave the same.
-pub fills_alike : {A : Type 0} {on asked : Lent → Asked (List A)} {old new : List A} {answer : Given} → ((room : Lent) → on room ≡ asked room)
-    → Fills on old answer new → Fills asked old answer new
+fills_alike : {A : Type 0} {on asked : Lent → Asked (List A)} {old new : List A} {answer : Result (Unit {0}) Refusal}
+    → ((room : Lent) → on room ≡ asked room) → Fills on old answer new → Fills asked old answer new
 fills_alike {old = old} e f = record {
   answered = f.answered ∙ ap given_answer (e _);
   left = f.left ∙ ap (λ (a : Asked (List _)). into a old) (e _);
 }
 
+-- The carrier hands a header on: the question on it is the question on what is read.
+module _ {reading : Reading} {h : Header} {table who when : List ℕ} (c : Carried reading (Ok h) table who when) where
+  -- One law for every question: what is so of a good record that the lists hold is so of the header and what is read.
+  so-carried : (P : Header → Reading → Type 0) → ((w : Record) → Holds w table who when → P w.header (good w)) → P h reading
+  unfolding checked_of
+  so-carried P so = by reading refl c.told
+    where
+      by : (r : Reading) → reading ≡ r → Ok h ≡ checked_of r → P h r
+      by (good w) is e = let same : w.header ≡ h = cc in rw (← same) (so w (c.holds w is))
+      by (bad x) is e = absurd cc
+
+  pub loaded : Fitting h who when
+  loaded = so-carried (λ k r. Fitting k who when) (λ w held. fitting w table who when held)
+
+  pub sized : Accepted (sizes_of h)
+  sized = loaded.sizes
+
+  module _ (p : Seat) (ℓ : Time) where
+    view-told : (lent : Lent) → view_for lent h table p ℓ ≡ view_asked lent reading p ℓ
+    unfolding on_record
+    view-told lent =
+        so-carried (λ k r. view_for lent k table p ℓ ≡ view_asked lent r p ℓ) (λ w held. view-alike w table who when held lent p ℓ)
+
+    known-told : known_for h table p ℓ ≡ known_asked reading p ℓ
+    unfolding on_record
+    known-told = so-carried (λ k r. known_for k table p ℓ ≡ known_asked r p ℓ) (λ w held. known_alike w table who when held p ℓ)
+
+    core-told : (lent : Lent) → core_for lent h table p ℓ ≡ core_asked lent reading p ℓ
+    unfolding on_record core_in
+    core-told lent =
+        so-carried (λ k r. core_for lent k table p ℓ ≡ core_asked lent r p ℓ)
+        (λ w held. ap (looking _) (settled-alike w table who when held lent _ p ℓ))
+
+    marks-told : (lent : Lent) → marks_for lent h table who when p ℓ ≡ marks_asked lent reading p ℓ
+    unfolding on_record marks_on
+    marks-told lent =
+        so-carried (λ k r. marks_for lent k table who when p ℓ ≡ marks_asked lent r p ℓ)
+        (λ w held.
+        ap (looking _) (settled-alike w table who when held lent _ p ℓ)
+        ∙ marks-asked w _ _ (sym held.seats) (sym held.times) p ℓ lent)
+
+    agreed-told : agreed_for h table who when p ℓ ≡ agreed_asked reading p ℓ
+    unfolding on_record settled_in fits
+    agreed-told =
+        so-carried (λ k r. agreed_for k table who when p ℓ ≡ agreed_asked r p ℓ)
+        (λ w held. rw (held.seats, held.times, settled-alike w table who when held by_value 0 p ℓ) (agreed-parts w.header.seats w.edits _))
+
+    pub seen-carried : {r : Result Seen Refusal} → r ≡ seen_answer (view_for by_value h table p ℓ) (known_for h table p ℓ) → r ≡ seen_asked reading p ℓ
+    seen-carried e = e ∙ ap₂ seen_answer (view-told by_value) known-told
+
+    pub agreed-carried : {r : Result Agreed Refusal} → r ≡ agreed_for h table who when p ℓ → r ≡ agreed_asked reading p ℓ
+    agreed-carried e = e ∙ agreed-told
+
+    pub view-carried : {old new : List ℤ} {r : Result (Unit {0}) Refusal} → Fills (λ room. view_for room h table p ℓ) old r new
+        → Fills (λ room. view_asked room reading p ℓ) old r new
+    view-carried f = fills_alike view-told f
+
+    pub core-carried : {old new : List ℤ} {r : Result (Unit {0}) Refusal} → Fills (λ room. core_for room h table p ℓ) old r new
+        → Fills (λ room. core_asked room reading p ℓ) old r new
+    core-carried f = fills_alike core-told f
+
+    pub marks-carried : {old new : List ℕ} {r : Result (Unit {0}) Refusal} → Fills (λ room. marks_for room h table who when p ℓ) old r new
+        → Fills (λ room. marks_asked room reading p ℓ) old r new
+    marks-carried f = fills_alike marks-told f
+
+  pub standing-carried : (p : Seat) {r : Result Standing Refusal} → r ≡ standing_answer (loser_for h table p) → r ≡ standing_answer (loser_asked reading p)
+  unfolding on_record
+  standing-carried p e =
+      e
+      ∙ so-carried (λ k r. standing_answer (loser_for k table p) ≡ standing_answer (loser_asked r p))
+      (λ w held. ap standing_answer (loser-alike w table who when held p))
+
+-- The carrier is refused, and the caller hands the refusal up: that is what every question on what is read answers.
+module _ {reading : Reading} {x : Refusal} {table who when : List ℕ} (c : Carried reading (Err x) table who when) where
+  the-refusal : reading ≡ bad x
+  unfolding checked_of
+  the-refusal = by reading c.told
+    where
+      by : (r : Reading) → Err x ≡ checked_of r → r ≡ bad x
+      by (good w) e = absurd cc
+      by (bad y) e = let same : y ≡ x = cc in ap bad same
+
+  handed : {A : Type 0} (r : Result A Refusal) → IsErrAnd r (λ y. y ≡ x) → r ≡ Err x
+  handed r e = let up = err_from_is_err_and r e in up.1 ∙ ap Err up.2
+
+  module _ (p : Seat) (ℓ : Time) where
+    pub seen-refused : (r : Result Seen Refusal) → IsErrAnd r (λ y. y ≡ x) → r ≡ seen_asked reading p ℓ
+    unfolding on_record
+    seen-refused r e = rw the-refusal (handed r e)
+
+    pub agreed-refused : (r : Result Agreed Refusal) → IsErrAnd r (λ y. y ≡ x) → r ≡ agreed_asked reading p ℓ
+    unfolding on_record
+    agreed-refused r e = rw the-refusal (handed r e)
+
+    pub view-refused : (old : List ℤ) (r : Result (Unit {0}) Refusal) → IsErrAnd r (λ y. y ≡ x) → Fills (λ room. view_asked room reading p ℓ) old r old
+    unfolding on_record
+    view-refused old r e = rw (the-refusal, handed r e) (record { answered = refl; left = refl })
+
+    pub core-refused : (old : List ℤ) (r : Result (Unit {0}) Refusal) → IsErrAnd r (λ y. y ≡ x) → Fills (λ room. core_asked room reading p ℓ) old r old
+    unfolding on_record
+    core-refused old r e = rw (the-refusal, handed r e) (record { answered = refl; left = refl })
+
+    pub marks-refused : (old : List ℕ) (r : Result (Unit {0}) Refusal) → IsErrAnd r (λ y. y ≡ x) → Fills (λ room. marks_asked room reading p ℓ) old r old
+    unfolding on_record
+    marks-refused old r e = rw (the-refusal, handed r e) (record { answered = refl; left = refl })
+
+  pub standing-refused : (p : Seat) (r : Result Standing Refusal) → IsErrAnd r (λ y. y ≡ x) → r ≡ standing_answer (loser_asked reading p)
+  unfolding on_record
+  standing-refused p r e = rw the-refusal (handed r e)
+
 -- ════ The carriers ════
 
-pub bytes-carried : (bytes : List ℕ) (r : Checked) (losses editors times l s t : List ℕ) → IsBytes bytes
+pub bytes-carried : (bytes : List ℕ) (r : Result Header Refusal) (losses editors times l s t : List ℕ) → IsBytes bytes
     → (r ≡ checked_of (reading_of bytes)) × (losses ≡ losses_left (reading_of bytes) l) × (editors ≡ seats_left (reading_of bytes) s) × (times ≡ times_left (reading_of bytes) t)
     → Carried (reading_of bytes) r losses editors times
 unfolding losses_left seats_left times_left
@@ -192,20 +252,19 @@ bytes-carried bytes r losses editors times l s t small e = record {
       };
 }
 
-module _ (n t R : ℕ) (lists : Tables) (j : Judged) (e : j ≡ judged_in (judged_lists limits n t R lists)) where
-  pub lists-carried-bad : (x : Refusal) → j ≡ judged-as.Refused x
-      → Carried (checked_lists limits n t R lists) (Refused x) lists.losses lists.seats lists.times
+module _ (n t R : ℕ) (lists : Tables) where
+  pub lists-carried-bad : (x : Refusal) → Err x ≡ judged_in (judged_lists limits n t R lists)
+      → Carried (checked_lists limits n t R lists) (Err x) lists.losses lists.seats lists.times
   unfolding checked_of
-  lists-carried-bad x f = record {
-    told = rw (lists-bad n t R lists j e x f) refl;
-    holds = λ w is. let g = lists-bad n t R lists j e x f in let z : ◌≡◌ {A = ℕ} 0 1 = cc in absurd (omega arith);
-  }
+  lists-carried-bad x e =
+      let g = lists-bad n t R lists x e in
+      record { told = rw g refl; holds = λ w is. let f : bad x ≡ good w = sym g ∙ is in absurd cc }
 
-  pub lists-carried-good : j ≡ judged-as.Accepted
-      → Carried (checked_lists limits n t R lists) (Good (header_from n t R lists)) lists.losses lists.seats lists.times
+  pub lists-carried-good : Ok tt ≡ judged_in (judged_lists limits n t R lists)
+      → Carried (checked_lists limits n t R lists) (Ok (header_from n t R lists)) lists.losses lists.seats lists.times
   unfolding checked_of record_from
-  lists-carried-good f =
-      let listed = lists-good n t R lists j e f in
+  lists-carried-good e =
+      let listed = lists-good n t R lists e in
       record {
         told = rw listed.is refl;
         holds = λ w is.

@@ -16,10 +16,7 @@ use Rattle.knowledge.specs.Settled.{Settled}
 use Rattle.viewing.specs.Counts.{farm_for}
 use Rattle.viewing.specs.declared.sizes.Sizes.{Sizes}
 use Rattle.record.specs.declared.header.Header.{Header}
-use Rattle.record.specs.declared.answers.Judged.{Judged}
-use Rattle.record.specs.declared.answers.Judged.TheVariants as judged-as
-use Rattle.record.specs.declared.answers.Checked.{Checked}
-use Rattle.record.specs.declared.answers.Checked.TheVariants as checked-as
+use Rattle.std.specs.Prelude.{Result, Ok, Err}
 use Rattle.record.specs.Taking.{IsBytes}
 use Rattle.record.specs.Record.{Record, Reading, good, bad}
 use Rattle.record.specs.Document.{reading_of}
@@ -74,23 +71,23 @@ pub record Read (bytes : List ℕ) (h : Header) : Type 0 where
   pub header : what.header ≡ h
   pub sound : good_record limits what ≡ true
 
-pub bytes-bad : (bytes : List ℕ) (r : Checked) (x : Refusal) → r ≡ checked_of (reading_of bytes) → r ≡ checked-as.Refused x → reading_of bytes ≡ bad x
+pub bytes-bad : (bytes : List ℕ) (r : Result Header Refusal) (x : Refusal) → r ≡ checked_of (reading_of bytes) → r ≡ Err x → reading_of bytes ≡ bad x
 unfolding checked_of
 bytes-bad bytes r x e f = by (reading_of bytes) (sym e ∙ f)
   where
-    by : (reading : Reading) → checked_of reading ≡ checked-as.Refused x → reading ≡ bad x
-    by (good w) g = let z : ◌≡◌ {A = ℕ} 0 1 = cc in absurd (omega arith)
+    by : (reading : Reading) → checked_of reading ≡ Err x → reading ≡ bad x
+    by (good w) g = absurd cc
     by (bad y) g = let same : y ≡ x = cc in ap bad same
 
-pub bytes_good : (bytes : List ℕ) (r : Checked) (h : Header) → IsBytes bytes → r ≡ checked_of (reading_of bytes) → r ≡ checked-as.Good h → Read bytes h
+pub bytes_good : (bytes : List ℕ) (r : Result Header Refusal) (h : Header) → IsBytes bytes → r ≡ checked_of (reading_of bytes) → r ≡ Ok h → Read bytes h
 unfolding checked_of
 bytes_good bytes r h small e f = by (reading_of bytes) refl (sym e ∙ f)
   where
-    by : (reading : Reading) → reading_of bytes ≡ reading → checked_of reading ≡ checked-as.Good h → Read bytes h
+    by : (reading : Reading) → reading_of bytes ≡ reading → checked_of reading ≡ Ok h → Read bytes h
     by (good w) g k =
         let same : w.header ≡ h = cc in
         record { what = w; is = g; header = same; sound = (reading-again limits bytes w small g).1 }
-    by (bad y) g k = let z : ◌≡◌ {A = ℕ} 0 1 = cc in absurd (omega arith)
+    by (bad y) g k = absurd cc
 
 module _ (bytes : List ℕ) (h : Header) (w : Read bytes h) where
   pub read-sizes : (sizes : Sizes) → sizes ≡ sizes_of h → Accepted sizes
@@ -124,10 +121,6 @@ module _ (bytes : List ℕ) (h : Header) (w : Read bytes h) where
       rw (e, w.is, ← w.header)
       (take-over (times_of w.what.edits) old _ (length-times w.what.edits ∙ (record-facts limits w.what w.sound).edit_count))
 
-pub listed-few : (bytes : List ℕ) (h : Header) (w : Read bytes h) (seats : List ℕ) → seats ≡ seats_of w.what.edits → length seats ≤ 512
-listed-few bytes h w seats e =
-    rw (e, length-seats w.what.edits, (record-facts limits w.what w.sound).edit_count) (few-edits w.what w.sound)
-
 -- What reading into tables with room leaves in those that a question looks at.
 losses-same : (reading : Reading) (t : Tables) → (tables_after reading t).losses ≡ losses_left reading t.losses
 unfolding tables_after losses_left
@@ -144,7 +137,7 @@ unfolding tables_after times_left
 times-same (good w) t = refl
 times-same (bad x) t = refl
 
-pub places-left : (bytes : List ℕ) (t after : Tables) (r : Checked) → Room t → ReadOutcome bytes t r after
+pub places-left : (bytes : List ℕ) (t after : Tables) (r : Result Header Refusal) → Room t → ReadOutcome bytes t r after
     → (r ≡ checked_of (reading_of bytes))
     × (after.losses ≡ losses_left (reading_of bytes) t.losses)
     × (after.seats ≡ seats_left (reading_of bytes) t.seats)
@@ -168,19 +161,19 @@ pub record Listed (n t R : ℕ) (lists : Tables) : Type 0 where
   pub seats : seats_of (record_from n t R lists).edits ≡ lists.seats
   pub times : times_of (record_from n t R lists).edits ≡ lists.times
 
-module _ (n t R : ℕ) (lists : Tables) (j : Judged) (e : j ≡ judged_in (judged_lists limits n t R lists)) where
-  pub lists-bad : (x : Refusal) → j ≡ judged-as.Refused x → checked_lists limits n t R lists ≡ bad x
+module _ (n t R : ℕ) (lists : Tables) where
+  pub lists-bad : (x : Refusal) → Err x ≡ judged_in (judged_lists limits n t R lists) → checked_lists limits n t R lists ≡ bad x
   unfolding checked_lists judged
-  lists-bad x f = rw (answer-refused _ x (sym e ∙ f))
+  lists-bad x e = rw (answer-refused _ x (sym e))
 
-  lists-are : j ≡ judged-as.Accepted → checked_lists limits n t R lists ≡ good (record_from n t R lists)
+  lists-are : Ok tt ≡ judged_in (judged_lists limits n t R lists) → checked_lists limits n t R lists ≡ good (record_from n t R lists)
   unfolding checked_lists judged
-  lists-are f = rw (answer-accepted _ (sym e ∙ f))
+  lists-are e = rw (answer-accepted _ (sym e))
 
-  pub lists-good : j ≡ judged-as.Accepted → Listed n t R lists
+  pub lists-good : Ok tt ≡ judged_in (judged_lists limits n t R lists) → Listed n t R lists
   unfolding record_from tables_of
-  lists-good f =
-      let same = lists-are f in
+  lists-good e =
+      let same = lists-are e in
       let a = lists-accepted limits n t R lists (record_from n t R lists) same in
       let seats = ap (λ (x : Tables). x.seats) a.tables in
       let times = ap (λ (x : Tables). x.times) a.tables in

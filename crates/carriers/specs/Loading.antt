@@ -5,6 +5,7 @@ use Rattle.farm.specs.Limits.{limits}
 use Rattle.farm.specs.Sets.{Seats}
 use Rattle.viewing.specs.declared.sizes.Sizes.{Sizes}
 use Rattle.record.specs.declared.header.Header.{Header}
+use Rattle.record.specs.declared.lists.Lists.{Lists}
 use Rattle.record.specs.Record.{Reading, good, bad}
 use Rattle.record.specs.Tables.{seats_of, times_of, over}
 use Rattle.record.specs.Writing.{checked_lists, lists_of}
@@ -31,3 +32,6 @@ loss_count h = h.seats * h.rounds
 -- What lists read as: the good record that they are, or the refusal that the order decides.
 abbrev pub lists_read : (n t R : ℕ) → List Seats → (seats times cells : List ℕ) → List ℤ → Reading
 lists_read n t R losses seats times cells changes = checked_lists limits n t R (lists_of losses seats times cells changes)
+
+abbrev pub reading_in : Lists → Reading
+reading_in l = lists_read l.seats l.bound l.rounds l.losses.now l.editors.now l.times.now l.cells.now l.changes.now

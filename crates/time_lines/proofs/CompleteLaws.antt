@@ -1,12 +1,7 @@
 -- Every public function of the crate states its outcome completely: the answer, and every byte of the lent buffer.
 -- Assumes nothing.
-use mathlib.Core.Path.{refl, sym, ◌∙◌}
 use Rattle.farm.proofs.Complete.{Complete, by-facts}
-use Rattle.time_lines.specs.contracts.places.end_of as end_of_lem
 use Rattle.time_lines.specs.contracts.places.put_times as put-times
-
-pub end-of-complete : Complete end_of_lem.ended (λ M 𝓤. end_of_lem.clauses {M = M} {𝓤 = 𝓤})
-end-of-complete M 𝓤 𝓛 mem run κs a g r s v w = by-facts M 𝓤 _ _ _ (λ p q. (p ∙ sym q, refl))
 
 pub put-times-complete : Complete put-times.ended (λ M 𝓤. put-times.clauses {M = M} {𝓤 = 𝓤})
 put-times-complete M 𝓤 𝓛 mem run κs a g r s v w = by-facts M 𝓤 _ _ _ (λ p q. (cc, cc))

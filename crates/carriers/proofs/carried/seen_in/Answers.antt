@@ -1,15 +1,9 @@
--- `carriers::carried::seen_in` meets its contract: the record's refusal, or the question on the accepted record.
+-- `carriers::carried::seen_in` meets its contract: the question on the accepted record.
 -- Assumes nothing.
-use Rattle.carriers.specs.Carried.{on_checked}
 use Rattle.carriers.proofs.carried.seen_in.Goals as goal
 
 pub ask_seen-requires : goal.ask_seen-requires
-ask_seen-requires c = rw c.sizes_in.ensures (c.requires _ c.in-Good.is)
+ask_seen-requires c = rw c.farm_of.ensures.0 c.requires
 
-pub returns-in-Refused : goal.returns-in-Refused
-unfolding on_checked
-returns-in-Refused c = rw c.in-Refused.is c.none_seen.ensures
-
-pub returns-in-Good : goal.returns-in-Good
-unfolding on_checked
-returns-in-Good c = rw c.in-Good.is (rw c.sizes_in.ensures at c.ask_seen.ensures)
+pub returns : goal.returns
+returns c = rw (c.farm_of.ensures.0, c.farm_of.ensures.1) at c.ask_seen.ensures

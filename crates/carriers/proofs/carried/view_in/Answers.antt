@@ -1,17 +1,9 @@
--- `carriers::carried::view_in` meets its contract: the record's refusal, or the question on the accepted record.
+-- `carriers::carried::view_in` meets its contract: the question on the accepted record.
 -- Assumes nothing.
-use Rattle.carriers.specs.Carried.{on_checked}
-use mathlib.Core.Path.{refl}
 use Rattle.carriers.proofs.carried.view_in.Goals as goal
 
 pub ask_view_into-requires : goal.ask_view_into-requires
-ask_view_into-requires c = rw c.sizes_in.ensures (c.requires _ c.in-Good.is)
+ask_view_into-requires c = rw c.farm_of.ensures.0 c.requires
 
-pub returns-in-Refused : goal.returns-in-Refused
-unfolding on_checked
-returns-in-Refused c = rw c.in-Refused.is (record { answered = refl; left = refl })
-
-pub returns-in-Good : goal.returns-in-Good
-unfolding on_checked
-returns-in-Good c =
-    rw c.in-Good.is (rw c.sizes_in.ensures at c.ask_view_into.ensures)
+pub returns : goal.returns
+returns c = rw (c.farm_of.ensures.0, c.farm_of.ensures.1) at c.ask_view_into.ensures

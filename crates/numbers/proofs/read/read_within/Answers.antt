@@ -4,7 +4,7 @@ use Rattle.numbers.proofs.CursorLaws.{read-refused, read-value, number-was, numb
 use Rattle.record.proofs.NumberLaws.{within-refused, within-below, within-above, within-good}
 use Rattle.numbers.specs.Cursors.{within_at}
 use Rattle.farm.specs.Limits.{limits}
-use Rattle.std.proofs.lemmas.Result.{err_from_is_err_and}
+use Rattle.record.proofs.RefusalLaws.{handed_up}
 use Rattle.std.proofs.Common.{sym, ◌∙◌}
 use Rattle.numbers.proofs.read.read_within.Goals as goal
 use Rattle.numbers.proofs.read.read_within.Goals.{then-value-low-via-then-value-low, then-value-low-via-else-value-low+then-high-value}
@@ -13,10 +13,9 @@ pub returns-in_err-value : goal.returns-in_err-value
 unfolding within_at
 returns-in_err-value c =
     let a = c.args in
-    let p = err_from_is_err_and c.from_residual.result c.from_residual.ensures.1 in
-    rw (p.1, p.2)
-    (read-refused a.bytes.now _ _
-    (within-refused limits a.low a.high _ _ (number-was-refused a.bytes.now a.from.at _ (sym c.read_number.ensures ∙ c.in_err-value.was))))
+    handed_up _ _ c.from_residual.ensures.1
+    ∙ read-refused a.bytes.now _ _
+    (within-refused limits a.low a.high _ _ (number-was-refused a.bytes.now a.from.at _ (sym c.read_number.ensures ∙ c.in_err-value.was)))
 
 pub returns-then-value-low : goal.returns-then-value-low
 unfolding within_at

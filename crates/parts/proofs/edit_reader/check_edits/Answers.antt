@@ -3,7 +3,7 @@
 use Rattle.parts.proofs.EditSteps.{edit-was, edits-on, edits-stop, edits-disorder, edits-end}
 use Rattle.numbers.proofs.CursorLaws.{read-was-refused}
 use Rattle.farm.specs.Limits.{limits}
-use Rattle.std.proofs.lemmas.Result.{err_from_is_err_and}
+use Rattle.record.proofs.RefusalLaws.{handed_up}
 use Rattle.std.proofs.Common.{sym, ◌∙◌}
 use Rattle.parts.proofs.edit_reader.check_edits.Goals as goal
 
@@ -12,11 +12,10 @@ returns-in_err-edit c =
     let a = c.args in
     let l = c.loop in
     let bytes = a.bytes.now in
-    let p = err_from_is_err_and c.from_residual.result c.from_residual.ensures.1 in
-    rw (p.1, p.2)
-    (sym (edits-stop limits bytes a.seats a.rounds a.edits l.counter l.before _ c.loop-test.true _
+    handed_up _ _ c.from_residual.ensures.1
+    ∙ sym (edits-stop limits bytes a.seats a.rounds a.edits l.counter l.before _ c.loop-test.true _
     (read-was-refused bytes _ _ (sym c.read_edit.ensures ∙ c.in_err-edit.was)))
-    ∙ l.invariant.1)
+    ∙ l.invariant.1
 
 pub returns-then-not-comes_after : goal.returns-then-not-comes_after
 returns-then-not-comes_after c =

@@ -3,7 +3,7 @@
 use Rattle.parts.proofs.LossSteps.{round-was, rounds-on, rounds-stop, rounds-end}
 use Rattle.numbers.proofs.CursorLaws.{passed-was-refused}
 use Rattle.farm.specs.Limits.{limits}
-use Rattle.std.proofs.lemmas.Result.{err_from_is_err_and}
+use Rattle.record.proofs.RefusalLaws.{handed_up}
 use Rattle.std.proofs.Common.{sym, ◌∙◌}
 use Rattle.parts.proofs.loss_reader.check_losses.Goals as goal
 
@@ -11,11 +11,10 @@ pub returns-in_err-at : goal.returns-in_err-at
 returns-in_err-at c =
     let a = c.args in
     let bytes = a.bytes.now in
-    let p = err_from_is_err_and c.from_residual.result c.from_residual.ensures.1 in
-    rw (p.1, p.2)
-    (sym (rounds-stop limits bytes a.seats a.rounds c.loop.counter _ c.loop-test.true _
+    handed_up _ _ c.from_residual.ensures.1
+    ∙ sym (rounds-stop limits bytes a.seats a.rounds c.loop.counter _ c.loop-test.true _
     (passed-was-refused bytes _ _ (sym c.check_round.ensures ∙ c.in_err-at.was)))
-    ∙ c.loop.invariant.1)
+    ∙ c.loop.invariant.1
 
 pub loop-preserved : goal.loop-preserved
 loop-preserved c =

@@ -3,7 +3,7 @@
 use Rattle.parts.proofs.LossSteps.{set-was, round-on, round-stops, round-ends}
 use Rattle.numbers.proofs.CursorLaws.{read-was-refused}
 use Rattle.farm.specs.Limits.{limits}
-use Rattle.std.proofs.lemmas.Result.{err_from_is_err_and}
+use Rattle.record.proofs.RefusalLaws.{handed_up}
 use Rattle.std.proofs.Common.{sym, ◌∙◌}
 use Rattle.parts.proofs.loss_reader.check_round.Goals as goal
 
@@ -11,11 +11,10 @@ pub returns-in_err-next : goal.returns-in_err-next
 returns-in_err-next c =
     let l = c.loop-sender in
     let bytes = c.args.bytes.now in
-    let p = err_from_is_err_and c.from_residual.result c.from_residual.ensures.1 in
-    rw (p.1, p.2)
-    (sym (round-stops limits bytes c.args.seats (record { 0 = l.sender }) _ c.loop-sender-test.true _
+    handed_up _ _ c.from_residual.ensures.1
+    ∙ sym (round-stops limits bytes c.args.seats (record { 0 = l.sender }) _ c.loop-sender-test.true _
     (read-was-refused bytes _ _ (sym c.read_set.ensures ∙ c.in_err-next.was)))
-    ∙ l.invariant.1)
+    ∙ l.invariant.1
 
 pub loop-sender-preserved : goal.loop-sender-preserved
 loop-sender-preserved c =

@@ -4,17 +4,16 @@ use Rattle.numbers.proofs.CursorLaws.{read-refused, read-value, number-was, numb
 use Rattle.record.proofs.LossLaws.{set-refused, set_tested}
 use Rattle.record.specs.Taking.{when}
 use Rattle.farm.specs.Limits.{limits}
-use Rattle.std.proofs.lemmas.Result.{err_from_is_err_and}
+use Rattle.record.proofs.RefusalLaws.{handed_up}
 use Rattle.std.proofs.Common.{true, false, sym, ◌∙◌}
 use Rattle.parts.proofs.loss_reader.read_set.Goals as goal
 
 pub returns-in_err-set : goal.returns-in_err-set
 returns-in_err-set c =
     let a = c.args in
-    let p = err_from_is_err_and c.from_residual.result c.from_residual.ensures.1 in
-    rw (p.1, p.2)
-    (read-refused a.bytes.now _ _
-    (set-refused limits a.seats a.sender _ _ (number-was-refused a.bytes.now a.from.at _ (sym c.read_number.ensures ∙ c.in_err-set.was))))
+    handed_up _ _ c.from_residual.ensures.1
+    ∙ read-refused a.bytes.now _ _
+    (set-refused limits a.seats a.sender _ _ (number-was-refused a.bytes.now a.from.at _ (sym c.read_number.ensures ∙ c.in_err-set.was)))
 
 pub returns-then-not-good_set : goal.returns-then-not-good_set
 unfolding when
