@@ -1,30 +1,43 @@
 // What a question needs of a record's bytes: all of it is read, and the loss sets and the places of the
-// edits stay in lent lists.
-ghost use Rattle.std.specs.Prelude.{◌≡◌, ◌*◌, ◌≤◌, length};
-ghost use Rattle.farm.specs.Limits.{limits};
-ghost use Rattle.record.specs.Answers.{checked_of};
+// edits stay.
 ghost use Rattle.record.specs.Document.{reading_of};
 ghost use Rattle.carriers.specs.Carried.{Carried};
-ghost use Rattle.carriers.specs.Loading.{losses_left, seats_left, times_left};
 
+use farm::limits::{TABLE_EDITS, TABLE_LOSS_SETS};
+use farm::refusals::Refusal;
 use reading::tables::read;
-use record::answers::Checked;
+use record::header::Header;
+
+// Room for the loss sets of any record, and for the seats and times of its edits.
+#[derive(Clone, Copy)]
+pub struct Room {
+    pub losses: [u16; TABLE_LOSS_SETS],
+    pub editors: [u8; TABLE_EDITS],
+    pub times: [u16; TABLE_EDITS],
+}
+
+impl Room {
+    pub fn new() -> Room {
+        Room {
+            losses: [0; TABLE_LOSS_SETS],
+            editors: [0; TABLE_EDITS],
+            times: [0; TABLE_EDITS],
+        }
+    }
+}
 
 // The loss sets, and the seats and times of the edits.
-pub fn read_places(
-    bytes: &[u8],
-    losses: &mut [u16],
-    editors: &mut [u8],
-    times: &mut [u16],
-) -> Checked
-    requires { (limits.most_seats * limits.most_rounds ≤ length losses.old) × (limits.most_edits ≤ length editors.old) × (limits.most_edits ≤ length times.old) }
-    ensures { (result ≡ checked_of (reading_of bytes.now))
-        × (losses.new ≡ losses_left (reading_of bytes.now) losses.old)
-        × (editors.new ≡ seats_left (reading_of bytes.now) editors.old)
-        × (times.new ≡ times_left (reading_of bytes.now) times.old)
-        × Carried (reading_of bytes.now) result losses.new editors.new times.new }
+pub fn read_places(bytes: &[u8], room: &mut Room) -> Result<Header, Refusal>
+    ensures { Carried (reading_of bytes.now) result room.new.losses room.new.editors room.new.times }
 {
-    let mut cells: [u32; 512] = [0; 512];
-    let mut changes: [i16; 512] = [0; 512];
-    read(bytes, losses, editors, times, &mut cells, &mut changes)
+    let mut cells = [0; TABLE_EDITS];
+    let mut changes = [0; TABLE_EDITS];
+    read(
+        bytes,
+        &mut room.losses,
+        &mut room.editors,
+        &mut room.times,
+        &mut cells,
+        &mut changes,
+    )
 }

@@ -2,13 +2,12 @@
 -- Assumes nothing.
 use mathlib.Core.Path.{◌≡◌, refl, sym, ◌∙◌, ap}
 use mathlib.Core.List.{List, [], ◌∷◌, ◌++◌, append_assoc}
-use Prim.Native.Nat.{ℕ, suc, ◌+◌, ◌≤◌, ◌<◌}
+use Prim.Native.Nat.{ℕ, ◌+◌, ◌≤◌, ◌<◌}
 use native.Mathlib.Nat.{suc-ne-zero}
-use native.Mathlib.Numerals.{add-one}
 use native.Mathlib.Omega.{arith}
 use lib.IntN.{ℤ}
-use lib.ListN.{length, take, drop, get_or, set, length-append, length-take, drop_of_length-le}
-use lib.Seq.{take_at, drop-cons}
+use lib.ListN.{length, take, drop, set, length-append, length-take}
+use lib.Seq.{take_at}
 use Rattle.record.specs.Tables.{over, edit_of, edits_from}
 use Rattle.record.proofs.TableLaws.{over_none, over_first}
 
@@ -69,21 +68,6 @@ cut-full E a b c d h =
     whole : {A : Type 0} (l : List A) → E ≤ length (take E l) → length (take E l) ≡ E
     whole l g = let e = length-take E l in omega arith
 
--- ════ A loop that puts entries over a list ════
-
-module _ {A : Type 0} where
-  -- One entry put: the entries after it are left to put.
-  pub over-turn : (at i : ℕ) (new old : List A) (d : A) → i < length new → at + i < length old
-      → over (at + (i + 1)) (drop (i + 1) new) (set old (at + i) (get_or new i d)) ≡ over (at + i) (drop i new) old
-  over-turn at i new old d a b =
-      let next : at + (i + 1) ≡ at + i + 1 = omega arith in
-      let from : i + 1 ≡ suc i = add-one i in
-      rw (drop-cons new i d a, next, from) (sym (over_first (at + i) (get_or new i d) (drop (suc i) new) old b))
-
-  -- Nothing is left to put.
-  pub over_done : (at i : ℕ) (new old : List A) → length new ≤ i → over at (drop i new) old ≡ old
-  over_done at i new old h = ap (λ (l : List A). over at l old) (drop_of_length-le new h) ∙ over_none at old
-
-  -- One entry put by itself.
-  pub over-one : (at : ℕ) (x : A) (old : List A) → at < length old → set old at x ≡ over at (x ∷ []) old
-  over-one at x old h = sym (over_first at x [] old h ∙ over_none (at + 1) (set old at x))
+-- One entry put by itself.
+pub over-one : {A : Type 0} (at : ℕ) (x : A) (old : List A) → at < length old → set old at x ≡ over at (x ∷ []) old
+over-one at x old h = sym (over_first at x [] old h ∙ over_none (at + 1) (set old at x))

@@ -2,17 +2,16 @@
 -- Assumes nothing.
 use mathlib.Core.Path.{◌≡◌, refl, sym, ◌∙◌, subst}
 use mathlib.Core.Bool.{Bool, true, false}
-use mathlib.Core.List.{List}
-use Prim.Native.Nat.{ℕ, ◌*◌, ◌≤◌, ◌<◌}
+use Prim.Native.Nat.{ℕ, ◌*◌, ◌≤◌}
 use native.Mathlib.Nat.{mul-le-mul}
 use native.Mathlib.Omega.{arith}
-use lib.IntN.{ℤ}
 use lib.ListN.{length, take}
 use lib.Seq.{length-take-le}
 use Rattle.farm.specs.Limits.{limits}
-use Rattle.farm.specs.Sets.{Seats}
 use Rattle.farm.specs.declared.refusals.Refusal.{Refusal}
-use Rattle.record.specs.Writing.{lists_of, accepted, faulty, record_from, judged_lists, judged, checked_lists}
+use Rattle.std.specs.Result.{is_ok}
+use Rattle.record.specs.Answers.{judged_in}
+use Rattle.record.specs.Writing.{Verdict, lists_of, accepted, faulty, record_from, judged_lists, judged, checked_lists}
 use Rattle.record.specs.Columns.{tables_of}
 use Rattle.record.specs.Good.{good_record}
 use Rattle.record.specs.Record.{Record, good, bad}
@@ -22,81 +21,82 @@ use Rattle.record.proofs.ColumnLaws.{columns-from-edits}
 use Rattle.record.proofs.GoodLaws.{header-facts, record-facts}
 use Rattle.record.proofs.WritingLaws.{lists-accepted, good-lists-accepted}
 use Rattle.live_table.specs.declared.table.Table.{Table}
-use Rattle.live_table.specs.Used.{ArraysLong, table_of, used_record}
+use Rattle.live_table.specs.Used.{used_record}
 
 pub not_so : (b : Bool) → (b ≡ true → ⊥) → b ≡ false
 not_so true h = absurd (h refl)
 not_so false h = refl
 
--- Sizes past the arrays are no good record's.
+-- The sizes of a good record fit the arrays.
 module _ (table : Table) where
-  many-seats : 7 < table.seats → good_record limits (used_record table) ≡ true → ⊥
+  pub fitting-sizes : good_record limits (used_record table) ≡ true → (table.seats ≤ 7) × (table.rounds ≤ 127) × (table.edits ≤ 512)
   unfolding used_record
-  many-seats h g = let f = header-facts limits _ (record-facts limits (used_record table) g).header in omega arith
+  fitting-sizes g = let f = header-facts limits _ (record-facts limits (used_record table) g).header in (omega arith, omega arith, omega arith)
 
-  many-rounds : 127 < table.rounds → good_record limits (used_record table) ≡ true → ⊥
-  unfolding used_record
-  many-rounds h g = let f = header-facts limits _ (record-facts limits (used_record table) g).header in omega arith
+  pub too-large : (table.seats ≤ 7 → table.rounds ≤ 127 → table.edits ≤ 512 → ⊥) → false ≡ good_record limits (used_record table)
+  too-large h = sym (not_so _ (λ g. let f = fitting-sizes g in h f.0 f.1 f.2))
 
-  many-edits : 512 < table.edits → good_record limits (used_record table) ≡ true → ⊥
-  unfolding used_record
-  many-edits h g = let f = header-facts limits _ (record-facts limits (used_record table) g).header in omega arith
+-- The arrays of a table are as long as their types say.
+pub record Arrays (t : Table) : Type 0 where
+  pub losses : length t.losses ≡ 889
+  pub editors : length t.editors ≡ 512
+  pub times : length t.times ≡ 512
+  pub cells : length t.cells ≡ 512
+  pub changes : length t.changes ≡ 512
 
-  pub too-many-seats : 7 < table.seats → false ≡ good_record limits (used_record table)
-  too-many-seats h = sym (not_so _ (many-seats h))
+-- The lists that the used part of a table is cut into.
+abbrev pub used_tables : Table → Tables
+used_tables t =
+    lists_of (take (t.seats * t.rounds) t.losses) (take t.edits t.editors) (take t.edits t.times) (take t.edits t.cells) (take t.edits t.changes)
 
-  pub too-many-rounds : 127 < table.rounds → false ≡ good_record limits (used_record table)
-  too-many-rounds h = sym (not_so _ (many-rounds h))
+module _ (t : Table) (arrays : Arrays t) (held : t.edits ≤ 512) where
+  who : length (take t.edits t.editors) ≡ t.edits
+  who = length-take-le t.edits t.editors (omega arith)
 
-  pub too-many-edits : 512 < table.edits → false ≡ good_record limits (used_record table)
-  too-many-edits h = sym (not_so _ (many-edits h))
+  when : length (take t.edits t.times) ≡ t.edits
+  when = length-take-le t.edits t.times (omega arith)
 
--- The lists that the used part is cut into.
-module _ (losses : List Seats) (editors times cells : List ℕ) (changes : List ℤ) (long : ArraysLong losses editors times cells changes) (n t R E : ℕ) (held : E ≤ 512) where
-  abbrev lists : Tables
-  lists = lists_of (take (n * R) losses) (take E editors) (take E times) (take E cells) (take E changes)
+  place : length (take t.edits t.cells) ≡ t.edits
+  place = length-take-le t.edits t.cells (omega arith)
 
-  abbrev T : Table
-  T = table_of losses editors times cells changes n t R E
+  height : length (take t.edits t.changes) ≡ t.edits
+  height = length-take-le t.edits t.changes (omega arith)
 
-  who : length (take E editors) ≡ E
-  who = length-take-le E editors (omega arith)
-
-  when : length (take E times) ≡ E
-  when = length-take-le E times (omega arith)
-
-  place : length (take E cells) ≡ E
-  place = length-take-le E cells (omega arith)
-
-  height : length (take E changes) ≡ E
-  height = length-take-le E changes (omega arith)
-
-  from : record_from n t R lists ≡ used_record T
+  from : record_from t.seats t.bound t.rounds (used_tables t) ≡ used_record t
   unfolding record_from used_record
   from = rw who
 
-  back : tables_of (used_record T) ≡ lists
+  back : tables_of (used_record t) ≡ used_tables t
   unfolding tables_of used_record
   back =
-      let c = columns-from-edits (take E editors) (take E times) (take E cells) (take E changes) (when ∙ sym who) (place ∙ sym who) (height ∙ sym who) in
+      let c = columns-from-edits (take t.edits t.editors) (take t.edits t.times) (take t.edits t.cells) (take t.edits t.changes) (when ∙ sym who) (place ∙ sym who) (height ∙ sym who) in
       λ i. record {
-        losses = take (n * R) losses;
+        losses = take (t.seats * t.rounds) t.losses;
         seats = c.seats-same i;
         times = c.times-same i;
         cells = c.cells_same i;
         changes = c.changes-same i;
       }
 
-  pub accepted-table : judged_lists limits n t R lists ≡ accepted → true ≡ good_record limits (used_record T)
+  accepted-table : judged_lists limits t.seats t.bound t.rounds (used_tables t) ≡ accepted → true ≡ good_record limits (used_record t)
   accepted-table v =
-      sym (subst (λ (r : Record). good_record limits r ≡ true) from (lists-accepted limits n t R lists _ (checked-good n t R lists limits v)).sound)
+      sym (subst (λ (r : Record). good_record limits r ≡ true) from (lists-accepted limits t.seats t.bound t.rounds (used_tables t) _ (checked-good t.seats t.bound t.rounds (used_tables t) limits v)).sound)
 
-  pub refused-table : (f : Refusal) → judged_lists limits n t R lists ≡ faulty f → false ≡ good_record limits (used_record T)
+  refused-table : (f : Refusal) → judged_lists limits t.seats t.bound t.rounds (used_tables t) ≡ faulty f → false ≡ good_record limits (used_record t)
   unfolding checked_lists judged used_record
   refused-table f v = sym (not_so _ (λ g.
-      let is-good : checked_lists limits n t R lists ≡ good (used_record T) = rw back at (good-lists-accepted limits (used_record T) g) in
-      let is-bad : checked_lists limits n t R lists ≡ bad f = rw v in
-      let z : ◌≡◌ {A = ℕ} 0 1 = cc in omega arith))
+      let is-good : checked_lists limits t.seats t.bound t.rounds (used_tables t) ≡ good (used_record t) = rw back at (good-lists-accepted limits (used_record t) g) in
+      let is-bad : checked_lists limits t.seats t.bound t.rounds (used_tables t) ≡ bad f = rw v in
+      cc))
+
+  -- The judge accepts the used part exactly where it is a good record.
+  pub judged-table : is_ok (judged_in (judged_lists limits t.seats t.bound t.rounds (used_tables t))) ≡ good_record limits (used_record t)
+  unfolding judged_in
+  judged-table = by (judged_lists limits t.seats t.bound t.rounds (used_tables t)) refl
+    where
+      by : (v : Verdict) → judged_lists limits t.seats t.bound t.rounds (used_tables t) ≡ v → is_ok (judged_in v) ≡ good_record limits (used_record t)
+      by accepted e = accepted-table e
+      by (faulty f) e = refused-table f e
 
 -- The loss sets of the most rounds and seats fit the array.
 pub sets-fit : (n R : ℕ) → n ≤ 7 → R ≤ 127 → n * R ≤ 889

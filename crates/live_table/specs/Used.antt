@@ -1,5 +1,5 @@
 -- The used part of a table, and refusal 19.
-use Rattle.std.specs.Prelude.{◌≡◌, cond, List, ℕ, ◌*◌, ℤ, length, take}
+use Rattle.std.specs.Prelude.{cond, List, ℕ, ◌*◌, ℤ, take}
 use Rattle.farm.specs.Limits.{limits}
 use Rattle.farm.specs.Sets.{Seats}
 use Rattle.farm.specs.declared.refusals.Refusal.TheVariants.{BadTable}
@@ -21,14 +21,6 @@ table_of losses editors times cells changes n t R E = record {
   cells = cells;
   changes = changes;
 }
-
--- The arrays have room for the largest used part there can be.
-pub record ArraysLong (sets : List Seats) (who when where' : List ℕ) (heights : List ℤ) : Type 0 where
-  pub losses : length sets ≡ 889
-  pub editors : length who ≡ 512
-  pub times : length when ≡ 512
-  pub cells : length where' ≡ 512
-  pub changes : length heights ≡ 512
 
 -- The record in the used part: the loss sets of the rounds done, and the edits held.
 unfoldable pub used_record : Table → Record

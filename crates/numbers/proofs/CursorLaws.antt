@@ -133,7 +133,7 @@ pub number-was-refused : (bytes : List ℕ) (at : ℕ) (r : Refusal) → number_
 unfolding number_at
 number-was-refused bytes at r e = read-was-refused bytes _ r e
 
-pub within-was : (low high : ℕ) (bytes : List ℕ) (at v : ℕ) (next : Cursor) → within_at low high bytes at ≡ Ok (v, next)
+within-was : (low high : ℕ) (bytes : List ℕ) (at v : ℕ) (next : Cursor) → within_at low high bytes at ≡ Ok (v, next)
     → Placed bytes (take_within limits low high (drop at bytes)) v next.at
 unfolding within_at
 within-was low high bytes at v next e =

@@ -1,6 +1,6 @@
 -- Bytes put into a buffer one run after the other are put there as one run.
 -- Assumes nothing.
-use mathlib.Core.Path.{◌≡◌, refl, sym, ◌∙◌, ap, ap₂}
+use mathlib.Core.Path.{◌≡◌, sym, ◌∙◌, ap, ap₂}
 use mathlib.Core.List.{List, [], ◌∷◌, ◌++◌, append_assoc}
 use Prim.Native.Nat.{ℕ, ◌+◌, ◌/◌, ◌%◌, ◌<◌, ◌≤◌}
 use native.Mathlib.Numerals.{add-one}
@@ -69,9 +69,6 @@ pub record Owed (at : ℕ) (rest present : List ℕ) (from : ℕ) (all old : Lis
   pub ends : at + length rest ≡ from + length all
   pub holds : over at rest present ≡ over from all old
   pub long : length present ≡ length old
-
-pub owed-first : (from : ℕ) (all old : List ℕ) → Owed from all old from all old
-owed-first from all old = record { ends = refl; holds = refl; long = refl }
 
 module _ (at : ℕ) (rest present : List ℕ) (from : ℕ) (all old : List ℕ) (owed : Owed at rest present from all old) where
   pub owed-done : rest ≡ [] → Put from all old at present

@@ -1,13 +1,15 @@
 -- `live_table::sound::judge_table` meets its contract: sizes past the arrays are no good record's, and else the lists are judged.
 -- Assumes nothing.
-use Rattle.live_table.proofs.SoundLaws.{too-many-seats, too-many-rounds, too-many-edits}
+use native.Mathlib.Omega.{arith}
+use borrow.Author.Rules.{rules}
+use Rattle.live_table.proofs.SoundLaws.{Arrays, too-large, judged-table}
 use Rattle.live_table.proofs.sound.judge_table.Goals as goal
 
-pub returns-then-seats-gt7 : goal.returns-then-seats-gt7
-returns-then-seats-gt7 c = too-many-seats _ c.if-seats-gt7.true
+pub returns-then-table-gt-MOST_SEATS : goal.returns-then-table-gt-MOST_SEATS
+returns-then-table-gt-MOST_SEATS c = too-large _ (λ a b d. grind arith)
 
-pub returns-then-rounds-gt127 : goal.returns-then-rounds-gt127
-returns-then-rounds-gt127 c = too-many-rounds _ c.if-rounds-gt127.true
-
-pub returns-then-edits-gt512 : goal.returns-then-edits-gt512
-returns-then-edits-gt512 c = too-many-edits _ c.if-edits-gt512.true
+pub returns : goal.returns
+returns c =
+    let t = c.args.table.now in
+    let arrays : Arrays t = search rules in
+    rw (c.is_ok.ensures.value, c.judge.ensures) (judged-table t arrays (omega arith))
