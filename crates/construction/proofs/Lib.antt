@@ -1,4 +1,4 @@
-pub mod SetSteps
+pub mod Turns
 pub mod KnownSteps
 pub mod SettleSteps
 pub mod CompleteLaws

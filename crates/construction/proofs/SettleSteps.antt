@@ -1,34 +1,25 @@
 -- The recursion of the construction, each law over plain values: the time that lies back, the view that is looked at, and a
 -- step with the size of the known set as what is left of the steps.
 -- Assumes nothing.
-use Rattle.std.specs.Prelude.{Ok, Err}
-use mathlib.Core.Path.{◌≡◌, refl, sym, ◌∙◌, ap, ap₂}
+use mathlib.Core.Path.{◌≡◌, refl, sym, ◌∙◌, ap}
 use mathlib.Core.Logic.{◌⊎◌, inl, inr, ◌≢◌, ⊎_elim}
-use mathlib.Core.List.{List}
-use Prim.Native.Nat.{ℕ, zero, suc, ◌+◌, ◌-◌, ◌^◌, ◌≤◌, ◌<◌}
+use Prim.Native.Nat.{ℕ, zero, suc, ◌+◌, ◌-◌, ◌≤◌, ◌<◌}
 use native.Mathlib.Nat.{not-suc-le-zero, lt_irrefl}
 use native.Mathlib.Numerals.{add-one}
 use native.Mathlib.Omega.{arith}
-use lib.IntN.{ℤ, pos, negsuc, ◌-ℤ◌}
+use lib.IntN.{pos, negsuc, ◌-ℤ◌}
 use lib.ListN.{replicate}
-use mir.Syntax.{w16}
-use mir.Val.{SFits, to_z, of_z}
-use mir.ValLaws.{to_z_pos, to_z-of_z}
 use borrow.Author.Tests.{le-ltb, lt-ltb}
 use Rattle.farm.specs.Sets.{Seats, size, outside}
 use Rattle.farm.specs.declared.places.Seat.{Seat}
 use Rattle.farm.specs.declared.places.Time.{Time}
-use Rattle.farm.specs.declared.refusals.Refusal.TheVariants.{OverBound}
-use Rattle.farm.proofs.Cases.{less-or-not}
 use Rattle.knowledge.specs.Farm.{Farm, IsSeat, time}
 use Rattle.knowledge.specs.Views.{views_of}
-use Rattle.knowledge.specs.Settled.{critical_time, core_view, next, reached, settle_from, outcome_of}
+use Rattle.knowledge.specs.Settled.{critical_time, core_view, next, reached, settle_from}
 use Rattle.viewing.specs.Counts.{room, counts, held}
-use Rattle.construction.specs.Answers.{Shrinks, settled_for, answer_for}
+use Rattle.construction.specs.Answers.{Shrinks, counts_for, settled_for}
 use Rattle.knowledge.specs.Known.{known_in, known_of}
-use Rattle.viewing.specs.declared.views.Counts.{Counts}
-use Rattle.construction.specs.declared.settled.Settled.{Settled}
-use Rattle.construction.proofs.KnownSteps.{known-held}
+use Rattle.construction.proofs.KnownSteps.{known_in-counts}
 use Rattle.knowledge.proofs.ChainLaws.{stage-start, settle-stops, settle-goes-on, settle-over, settle-within}
 use Rattle.knowledge.proofs.ChainTheory.{Falling, change-falls, next-falls, stage-falls}
 use Rattle.viewing.proofs.CountLaws.{filled_none, filled-skip}
@@ -43,20 +34,6 @@ pub minus-below : (a b : ℕ) → a < b → pos a -ℤ pos b ≡ negsuc (b - suc
 minus-below a zero h = absurd (not-suc-le-zero h)
 minus-below a (suc b) h = rw (lt-ltb a (suc b) h)
 
--- The difference of two numbers of 15 bits is one of 16 bits with a sign.
-pub minus-fits : (a b : ℕ) → a < 2 ^ 15 → b < 2 ^ 15 → SFits w16 (pos a -ℤ pos b)
-minus-fits a b ha hb = by (less-or-not a b)
-  where
-    by : (a < b) ⊎ (b ≤ a) → SFits w16 (pos a -ℤ pos b)
-    by (inl l) = rw (minus-below a b l) (record { sfits = omega arith })
-    by (inr l) = rw (minus-at a b l) (record { sfits = omega arith })
-
-pub back_fits : (a b : ℕ) → a < 2 ^ 15 → b < 2 ^ 15 → SFits w16 (to_z w16 a -ℤ to_z w16 b)
-back_fits a b ha hb = rw (to_z_pos w16 a ha, to_z_pos w16 b hb) (minus-fits a b ha hb)
-
-pub back_is : (a b : ℕ) → a < 2 ^ 15 → b < 2 ^ 15 → to_z w16 (of_z w16 (to_z w16 a -ℤ to_z w16 b)) ≡ pos a -ℤ pos b
-back_is a b ha hb = rw (to_z_pos w16 a ha, to_z_pos w16 b hb) (to_z-of_z w16 (pos a -ℤ pos b) (minus-fits a b ha hb))
-
 -- ════ The view that is looked at ════
 
 -- Rule 3: k = ℓ − (t + 1 − |B|).
@@ -69,17 +46,23 @@ pub counts_zero : (n : ℕ) → replicate room 0 ≡ counts n (λ q. 0)
 unfolding counts
 counts_zero n = filled_none room (λ q. 0) ∙ filled-skip room 0 n (λ q. 0) (omega arith) (λ j low high. refl)
 
-pub core-early : (farm : Farm) (ℓ : ℕ) (known : Seats) (back : ℕ) → size farm.seats known ≤ farm.bound
-    → back ≡ farm.bound + 1 - size farm.seats known → ℓ < back → replicate room 0 ≡ counts farm.seats (core_view farm ℓ known)
+pub counts-core_early : (farm : Farm) (n ℓ : ℕ) (known : Seats) → n ≡ farm.seats → size n known ≤ farm.bound
+    → ℓ < farm.bound + 1 - size n known → counts n (core_view farm ℓ known) ≡ replicate room 0
 unfolding core_view views_of
-core-early farm ℓ known back within e early =
-    rw (← critical-is farm ℓ known within, ← e, minus-below ℓ back early) (counts_zero farm.seats)
+counts-core_early farm n ℓ known e within early =
+    let w = rw e at within in
+    rw (e, ← critical-is farm ℓ known w, minus-below ℓ (farm.bound + 1 - size farm.seats known) (rw e at early)) (sym (counts_zero farm.seats))
 
-pub core-late : (farm : Farm) (ℓ : ℕ) (known : Seats) (back : ℕ) → size farm.seats known ≤ farm.bound
-    → back ≡ farm.bound + 1 - size farm.seats known → back ≤ ℓ
-    → views_of farm (outside farm.seats known) (pos (ℓ - back)) ≡ core_view farm ℓ known
+pub counts-core_late : (farm : Farm) (n ℓ : ℕ) (known : Seats) → n ≡ farm.seats → size n known ≤ farm.bound
+    → farm.bound + 1 - size n known ≤ ℓ
+    → counts n (core_view farm ℓ known) ≡ counts n (views_of farm (outside n known) (pos (ℓ - (farm.bound + 1 - size n known))))
 unfolding core_view
-core-late farm ℓ known back within e late = rw (← critical-is farm ℓ known within, ← e, minus-at ℓ back late) refl
+counts-core_late farm n ℓ known e within late =
+    let w = rw e at within in
+    rw (e, ← critical-is farm ℓ known w, minus-at ℓ (farm.bound + 1 - size farm.seats known) (rw e at late)) refl
+
+-- By these the check proves `core_view` by itself.
+pub ruleset core_steps = (counts-core_early, counts-core_late)
 
 -- ════ A step ════
 
@@ -122,72 +105,52 @@ settle-enough farm fits ℓ (suc a) (suc b) steps known f ha hb =
         ∙ later (omega arith) (omega arith)
         ∙ sym (settle-goes-on farm ℓ b steps known (changed farm ℓ known less))
 
--- A change makes the set smaller.
-pub change-is-less : (farm : Farm) (ℓ : ℕ) (known : Seats) → Shrinks farm (time ℓ) known → next farm ℓ known ≢ known
-    → size farm.seats (next farm ℓ known) < size farm.seats known
-change-is-less farm ℓ known s moved = ⊎_elim (λ same. absurd (moved same)) (λ less. less) (change-falls farm ℓ known (shrinks-falling farm ℓ known s))
-
--- A change: the steps go on from the next set.
-pub settle-continues : (farm : Farm) → farm.bound < farm.seats → (ℓ steps : ℕ) (known : Seats) → Shrinks farm (time ℓ) known
-    → next farm ℓ known ≢ known
-    → settle_from farm ℓ (size farm.seats known) steps known
-    ≡ settle_from farm ℓ (size farm.seats (next farm ℓ known)) (steps + 1) (next farm ℓ known)
-settle-continues farm fits ℓ steps known s moved =
-    by (size farm.seats known) refl (change-is-less farm ℓ known s moved)
-  where
-    by : (left : ℕ) → size farm.seats known ≡ left → size farm.seats (next farm ℓ known) < size farm.seats known
-        → settle_from farm ℓ (size farm.seats known) steps known
-        ≡ settle_from farm ℓ (size farm.seats (next farm ℓ known)) (steps + 1) (next farm ℓ known)
-    by zero e less = let no : ⊥ = omega arith in absurd no
-    by (suc left) e less =
-        let f = next-falls farm fits ℓ known (shrinks-falling farm ℓ known s) in
-        rw (e, add-one)
-        (settle-goes-on farm ℓ left steps known moved
-        ∙ settle-enough farm fits ℓ left (size farm.seats (next farm ℓ known)) (suc steps) (next farm ℓ known) f (omega arith) (omega arith))
-
 -- ════ The recursion at its two ends ════
 
-pub core-found : (farm : Farm) (ℓ : ℕ) (known : Seats) (back : ℕ) (set : Seats) (l : List ℕ) → size farm.seats known ≤ farm.bound
-    → back ≡ farm.bound + 1 - size farm.seats known → back ≤ ℓ → set ≡ outside farm.seats known
-    → l ≡ counts farm.seats (views_of farm set (pos (ℓ - back))) → l ≡ counts farm.seats (core_view farm ℓ known)
-core-found farm ℓ known back set l within e late es el =
-    el ∙ (rw es (ap (counts farm.seats) (core-late farm ℓ known back within e late)))
-
-pub next-found : (farm : Farm) (ℓ : ℕ) (known : Seats) (core : List ℕ) (result : Seats) → farm.seats ≤ room
-    → core ≡ counts farm.seats (core_view farm ℓ known) → result ≡ known_in farm (held core) → result ≡ next farm ℓ known
+-- The next known set, as the code finds it.
+pub next-is : (farm : Farm) (n ℓ : ℕ) (known : Seats) → n ≡ farm.seats → n ≤ room
+    → known_in farm (held (counts n (core_view farm ℓ known))) ≡ next farm ℓ known
 unfolding next
-next-found farm ℓ known core result small e r = r ∙ known-held farm (core_view farm ℓ known) core small e
+next-is farm n ℓ known e small = known_in-counts farm n (core_view farm ℓ known) e small
 
-pub next-shrinks : (farm : Farm) → farm.bound < farm.seats → (ℓ : ℕ) (known result : Seats) → Shrinks farm (time ℓ) known
-    → result ≡ next farm ℓ known → Shrinks farm (time ℓ) result
-next-shrinks farm fits ℓ known result s e =
-    rw e (falling-shrinks farm ℓ (next farm ℓ known) (next-falls farm fits ℓ known (shrinks-falling farm ℓ known s)))
+pub next-shrinks : (farm : Farm) (ℓ : ℕ) (known : Seats) → farm.bound < farm.seats → Shrinks farm (time ℓ) known
+    → Shrinks farm (time ℓ) (next farm ℓ known)
+next-shrinks farm ℓ known fits s = falling-shrinks farm ℓ (next farm ℓ known) (next-falls farm fits ℓ known (shrinks-falling farm ℓ known s))
 
-pub next-is-less : (farm : Farm) (ℓ : ℕ) (known result : Seats) → Shrinks farm (time ℓ) known → result ≡ next farm ℓ known → result ≢ known
-    → size farm.seats result < size farm.seats known
-next-is-less farm ℓ known result s e moved = rw e (change-is-less farm ℓ known s (λ same. moved (e ∙ same)))
+-- A change makes the set smaller.
+pub next_less : (farm : Farm) (n ℓ : ℕ) (known : Seats) → n ≡ farm.seats → Shrinks farm (time ℓ) known → next farm ℓ known ≢ known
+    → size n (next farm ℓ known) < size n known
+next_less farm n ℓ known e s moved =
+    rw e (⊎_elim (λ same. absurd (moved same)) (λ less. less) (change-falls farm ℓ known (shrinks-falling farm ℓ known s)))
 
--- The code's answer, put together.
-abbrev pub the-settled : ℕ → ℤ → Seats → Counts → Settled
-the-settled steps critical kept core = record { steps = steps; critical = critical; kept = kept; core = core }
+-- A change: the steps go on from the next set.
+pub settle-continues : (farm : Farm) (n ℓ left steps : ℕ) (known : Seats) → n ≡ farm.seats → farm.bound < n → left ≡ size n known
+    → Shrinks farm (time ℓ) known → next farm ℓ known ≢ known
+    → settle_from farm ℓ left steps known ≡ settle_from farm ℓ (size n (next farm ℓ known)) (steps + 1) (next farm ℓ known)
+settle-continues farm n ℓ left steps known e fits el s moved =
+    rw e (by left (rw e at el) (rw e at (next_less farm n ℓ known e s moved)))
+  where
+    by : (left : ℕ) → left ≡ size farm.seats known → size farm.seats (next farm ℓ known) < size farm.seats known
+        → settle_from farm ℓ left steps known
+        ≡ settle_from farm ℓ (size farm.seats (next farm ℓ known)) (steps + 1) (next farm ℓ known)
+    by zero e less = let no : ⊥ = omega arith in absurd no
+    by (suc left) same less =
+        let fits-seats = rw e at fits in
+        let f = next-falls farm fits-seats ℓ known (shrinks-falling farm ℓ known s) in
+        rw add-one
+        (settle-goes-on farm ℓ left steps known moved
+        ∙ settle-enough farm fits-seats ℓ left (size farm.seats (next farm ℓ known)) (suc steps) (next farm ℓ known) f (omega arith) (omega arith))
 
--- No change.
-pub settled_here : (farm : Farm) (ℓ steps : ℕ) (known result : Seats) (critical : ℤ) (core : Counts) → Shrinks farm (time ℓ) known
-    → result ≡ next farm ℓ known → result ≡ known → critical ≡ pos ℓ -ℤ pos (farm.bound + 1 - size farm.seats known)
-    → core.of ≡ counts farm.seats (core_view farm ℓ known)
-    → the-settled steps critical known core ≡ settled_for farm.seats (settle_from farm ℓ (size farm.seats known) steps known)
+-- No change: rule 5.
+pub settled-here : (farm : Farm) (n ℓ left steps : ℕ) (known : Seats) → Shrinks farm (time ℓ) known → next farm ℓ known ≡ known
+    → settled_for n (settle_from farm ℓ left steps known)
+    ≡ (record { steps = steps; critical = pos ℓ -ℤ pos (farm.bound + 1 - size farm.seats known); kept = known; core = counts_for n (core_view farm ℓ known) })
 unfolding reached
-settled_here farm ℓ steps known result critical core s e same ec eo =
-    rw (settle-ends farm ℓ (size farm.seats known) steps known (sym e ∙ same), ← critical-is farm ℓ known s.within)
-    (ap₂ (λ (k : ℤ) (l : List ℕ). the-settled steps k known (record { of = l })) ec eo)
+settled-here farm n ℓ left steps known s same =
+    rw (settle-ends farm ℓ left steps known same, ← critical-is farm ℓ known s.within) refl
 
--- A change.
-pub settled_on : (farm : Farm) → farm.bound < farm.seats → (ℓ steps : ℕ) (known result : Seats) (r : Settled) → Shrinks farm (time ℓ) known
-    → result ≡ next farm ℓ known → result ≢ known
-    → r ≡ settled_for farm.seats (settle_from farm ℓ (size farm.seats result) (steps + 1) result)
-    → r ≡ settled_for farm.seats (settle_from farm ℓ (size farm.seats known) steps known)
-settled_on farm fits ℓ steps known result r s e moved er =
-    er ∙ (rw e (sym (ap (settled_for farm.seats) (settle-continues farm fits ℓ steps known s (λ same. moved (e ∙ same))))))
+-- By these the check proves `settle_from` by itself.
+pub ruleset step_rules = (next-is, next-shrinks, next_less, settle-continues, settled-here)
 
 -- ════ The asking seat's own known set ════
 
@@ -197,14 +160,5 @@ own-shrinks farm fits p ℓ hp known e within =
     let same = stage-start farm p ℓ hp ∙ sym e in
     falling-shrinks farm ℓ.0 known (rw same at (stage-falls farm fits p ℓ hp (rw same within) 0))
 
-pub answer-over : (farm : Farm) (p : Seat) (ℓ : Time) (known : Seats) (count : ℕ) → known ≡ known_of farm p ℓ
-    → count ≡ size farm.seats known → farm.bound < count → Err OverBound ≡ answer_for farm.seats (outcome_of farm p ℓ)
-answer-over farm p ℓ known count e es over = rw (settle-over farm ℓ.0 (known_of farm p ℓ) (rw (es, e) at over))
-
-pub answer-within : (farm : Farm) (p : Seat) (ℓ : Time) (known : Seats) (count : ℕ) (r : Settled) → known ≡ known_of farm p ℓ
-    → count ≡ size farm.seats known → count ≤ farm.bound
-    → r ≡ settled_for farm.seats (settle_from farm ℓ.0 (size farm.seats known) 1 known)
-    → Ok r ≡ answer_for farm.seats (outcome_of farm p ℓ)
-answer-within farm p ℓ known count r e es within er =
-    rw (settle-within farm ℓ.0 (known_of farm p ℓ) (rw (es, e) at within))
-    (ap Ok (rw e at er))
+-- By these the check proves `settle` by itself, but for what it says of the seat's own known set.
+pub ruleset settle_steps = (settle-over, settle-within)

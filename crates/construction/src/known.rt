@@ -18,6 +18,7 @@ pub struct KnownSets {
 }
 
 // Whether a send of z to q was lost in a round that ends before the count.
+#[tactic(auto, using(crate::proofs::KnownSteps::known_steps), unfolding(crate::specs::KnownSets::lost_before))]
 fn missed_at(farm: Farm, z: Seat, q: Seat, count: u16) -> bool
     ensures { result ≡ is_lost_before (farm_in farm.entry) z q count }
 {
@@ -30,6 +31,7 @@ fn missed_at(farm: Farm, z: Seat, q: Seat, count: u16) -> bool
 }
 
 // Whether a send of z into a place of the view was lost.
+#[tactic(auto, using(crate::proofs::KnownSteps::known_steps), unfolding(knowledge::specs::Known::missed, knowledge::specs::Known::missed_at, crate::specs::KnownSets::lost_before, viewing::specs::Counts::held))]
 fn missed_in(farm: Farm, view: &[u16; ROOM], z: Seat) -> bool
     requires { farm.sizes.seats ≤ limits.most_seats }
     ensures { result ≡ is_missed (farm_in farm.entry) (held view.now) z }
@@ -43,6 +45,7 @@ fn missed_in(farm: Farm, view: &[u16; ROOM], z: Seat) -> bool
 }
 
 // The known set of a view.
+#[tactic(auto, using(crate::proofs::KnownSteps::known_steps), unfolding(knowledge::specs::Known::known_in))]
 pub fn known_in(farm: Farm, view: &[u16; ROOM]) -> u16
     requires { farm.sizes.seats ≤ limits.most_seats }
     ensures { result ≡ known_in (farm_in farm.entry) (held view.now) }
@@ -55,6 +58,7 @@ pub fn known_in(farm: Farm, view: &[u16; ROOM]) -> u16
 }
 
 // The known set of a place's view.
+#[tactic(auto, using(crate::proofs::KnownSteps::known_steps))]
 pub fn known_of(farm: Farm, seat: Seat, time: Time) -> u16
     requires { (farm.sizes.seats ≤ limits.most_seats) × (seat.0 < farm.sizes.seats) × (time.0 ≤ limits.most_rounds) }
     ensures { result ≡ known_of (farm_in farm.entry) seat time }
@@ -64,6 +68,7 @@ pub fn known_of(farm: Farm, seat: Seat, time: Time) -> u16
 }
 
 // The known set of one seat's view in a table of all views.
+#[tactic(auto, using(crate::proofs::KnownSteps::known_steps))]
 fn known_at(farm: Farm, views: &[u16; TABLE], seat: Seat) -> u16
     requires { (farm.sizes.seats ≤ limits.most_seats) × (seat.0 < limits.most_seats) }
     ensures { result ≡ known_in (farm_in farm.entry) (seat_view views.now seat) }
@@ -73,6 +78,7 @@ fn known_at(farm: Farm, views: &[u16; TABLE], seat: Seat) -> u16
 }
 
 // The known sets of all seats' views at a time, from one pass of the views.
+#[tactic(auto, using(crate::proofs::KnownSteps::known_steps), unfolding(viewing::specs::Counts::counts))]
 pub fn known_sets(farm: Farm, time: Time) -> KnownSets
     requires { (farm.sizes.seats ≤ limits.most_seats) × (time.0 ≤ limits.most_rounds) }
     ensures { result.of ≡ counts farm.entry.sizes.seats (known_sets (farm_in farm.entry) time) }

@@ -11,6 +11,7 @@ use viewing::losses::was_lost;
 use viewing::sets::with_seat;
 
 // Whether a send of z was lost in the round that begins at the time.
+#[tactic(auto, using(crate::proofs::KnownSteps::known_steps), unfolding(knowledge::specs::Farm::loses_in))]
 fn loses_in(farm: Farm, begun: Time, z: Seat) -> bool
     ensures { result ≡ is_loser_in (farm_in farm.entry) (after begun) z }
 {
@@ -23,6 +24,7 @@ fn loses_in(farm: Farm, begun: Time, z: Seat) -> bool
 }
 
 // Whether a send of z was lost in the rounds up to the time.
+#[tactic(auto, using(crate::proofs::KnownSteps::known_steps), unfolding(knowledge::specs::Farm::loses_by))]
 fn loses_by(farm: Farm, time: Time, z: Seat) -> bool
     ensures { result ≡ is_loser_by (farm_in farm.entry) time z }
 {
@@ -35,6 +37,7 @@ fn loses_by(farm: Farm, time: Time, z: Seat) -> bool
 }
 
 // The losers by a time.
+#[tactic(auto, using(crate::proofs::KnownSteps::known_steps), unfolding(knowledge::specs::Farm::losers_by))]
 pub fn losers_by(farm: Farm, time: Time) -> u16
     requires { farm.sizes.seats ≤ limits.most_seats }
     ensures { result ≡ losers_by (farm_in farm.entry) time }
@@ -47,6 +50,7 @@ pub fn losers_by(farm: Farm, time: Time) -> u16
 }
 
 // Whether a seat is a loser of the whole record; every other seat is clean.
+#[tactic(auto, using(crate::proofs::KnownSteps::known_steps), unfolding(knowledge::specs::Farm::losers_by))]
 pub fn is_loser(farm: Farm, seat: Seat) -> bool
     requires { seat.0 < farm.sizes.seats }
     ensures { result ≡ is_loser (farm_in farm.entry) seat }

@@ -8,6 +8,7 @@ use farm::sets::holds;
 use viewing::sets::with_seat;
 
 // The seats that are not in the set.
+#[tactic(auto, using(crate::proofs::Turns::turns), unfolding(farm::specs::Sets::outside))]
 pub fn seats_outside(set: u16, seats: u8) -> u16
     requires { seats ≤ limits.most_seats }
     ensures { result ≡ outside seats set }
@@ -20,6 +21,7 @@ pub fn seats_outside(set: u16, seats: u8) -> u16
 }
 
 // How many seats are in the set.
+#[tactic(auto, using(crate::proofs::Turns::turns))]
 pub fn size_of(set: u16, seats: u8) -> u8
     ensures { result ≡ size seats set }
 {

@@ -56,7 +56,7 @@ fn read_accepted(bytes: &[u8], from: Cursor, n: u8, rounds: u16) -> Result<(Edit
     let edit = Edit {
         seat: Seat(seat as u8),
         time: Time(time as u16),
-        cell: cell,
+        cell,
         change: unmap_change(change as u16),
     };
     Ok((edit, after_change))

@@ -6,10 +6,9 @@ ghost use Rattle.questions.specs.Answers.{seen_asked, agreed_asked, standing_ans
 ghost use Rattle.host.specs.Numbers.{seat_named, time_named};
 ghost use Rattle.host.specs.Results.{FillsTold, seen_told, agreed_told, standing_told};
 
-use host::numbers::{SeatNumber, TimeNumber, byte_of, seat_of, short_of, time_of};
-use host::results::{
-    AgreedTold, SeenTold, StandingTold, given_number, tell_agreed, tell_seen, tell_standing,
-};
+use crate::given::lists_given;
+use host::numbers::{SeatNumber, TimeNumber};
+use host::results::{AgreedTold, SeenTold, StandingTold, refusal_number};
 use list_questions::asks::{agreed, core, marks, seen, standing, view};
 
 // What a seat has seen at a time.
@@ -28,19 +27,8 @@ pub extern "C" fn ricecrock_lists_seen<'a>(
 ) -> SeenTold
     ensures { result ≡ seen_told (seen_asked (lists_read seats bound rounds losses.now editors.now times.now cells.now changes.now) (seat_named seat) (time_named time)) }
 {
-    let answer = seen(
-        byte_of(seats),
-        byte_of(bound),
-        short_of(rounds),
-        losses,
-        editors,
-        times,
-        cells,
-        changes,
-        seat_of(seat),
-        time_of(time),
-    );
-    tell_seen(answer)
+    let lists = lists_given(seats, bound, rounds, losses, editors, times, cells, changes);
+    seen(lists, seat.into(), time.into()).into()
 }
 
 // What is agreed at a place.
@@ -59,19 +47,8 @@ pub extern "C" fn ricecrock_lists_agreed<'a>(
 ) -> AgreedTold
     ensures { result ≡ agreed_told (agreed_asked (lists_read seats bound rounds losses.now editors.now times.now cells.now changes.now) (seat_named seat) (time_named time)) }
 {
-    let answer = agreed(
-        byte_of(seats),
-        byte_of(bound),
-        short_of(rounds),
-        losses,
-        editors,
-        times,
-        cells,
-        changes,
-        seat_of(seat),
-        time_of(time),
-    );
-    tell_agreed(answer)
+    let lists = lists_given(seats, bound, rounds, losses, editors, times, cells, changes);
+    agreed(lists, seat.into(), time.into()).into()
 }
 
 // Whether a seat is a loser of the whole record.
@@ -89,18 +66,8 @@ pub extern "C" fn ricecrock_lists_standing<'a>(
 ) -> StandingTold
     ensures { result ≡ standing_told (standing_answer (loser_asked (lists_read seats bound rounds losses.now editors.now times.now cells.now changes.now) (seat_named seat))) }
 {
-    let answer = standing(
-        byte_of(seats),
-        byte_of(bound),
-        short_of(rounds),
-        losses,
-        editors,
-        times,
-        cells,
-        changes,
-        seat_of(seat),
-    );
-    tell_standing(answer)
+    let lists = lists_given(seats, bound, rounds, losses, editors, times, cells, changes);
+    standing(lists, seat.into()).into()
 }
 
 // The view of a place, into a lent buffer of at least n numbers.
@@ -120,20 +87,8 @@ pub extern "C" fn ricecrock_lists_view<'a>(
 ) -> u8
     ensures { FillsTold (λ room. view_asked room (lists_read seats bound rounds losses.now editors.now times.now cells.now changes.now) (seat_named seat) (time_named time)) out.old result out.new }
 {
-    let answer = view(
-        byte_of(seats),
-        byte_of(bound),
-        short_of(rounds),
-        losses,
-        editors,
-        times,
-        cells,
-        changes,
-        seat_of(seat),
-        time_of(time),
-        out,
-    );
-    given_number(answer)
+    let lists = lists_given(seats, bound, rounds, losses, editors, times, cells, changes);
+    refusal_number(view(lists, seat.into(), time.into(), out))
 }
 
 // The core of a place, into a lent buffer of at least n numbers.
@@ -153,20 +108,8 @@ pub extern "C" fn ricecrock_lists_core<'a>(
 ) -> u8
     ensures { FillsTold (λ room. core_asked room (lists_read seats bound rounds losses.now editors.now times.now cells.now changes.now) (seat_named seat) (time_named time)) out.old result out.new }
 {
-    let answer = core(
-        byte_of(seats),
-        byte_of(bound),
-        short_of(rounds),
-        losses,
-        editors,
-        times,
-        cells,
-        changes,
-        seat_of(seat),
-        time_of(time),
-        out,
-    );
-    given_number(answer)
+    let lists = lists_given(seats, bound, rounds, losses, editors, times, cells, changes);
+    refusal_number(core(lists, seat.into(), time.into(), out))
 }
 
 // Edit marks, into a lent buffer of at least as many bytes as there are edits.
@@ -186,18 +129,6 @@ pub extern "C" fn ricecrock_lists_marks<'a>(
 ) -> u8
     ensures { FillsTold (λ room. marks_asked room (lists_read seats bound rounds losses.now editors.now times.now cells.now changes.now) (seat_named seat) (time_named time)) out.old result out.new }
 {
-    let answer = marks(
-        byte_of(seats),
-        byte_of(bound),
-        short_of(rounds),
-        losses,
-        editors,
-        times,
-        cells,
-        changes,
-        seat_of(seat),
-        time_of(time),
-        out,
-    );
-    given_number(answer)
+    let lists = lists_given(seats, bound, rounds, losses, editors, times, cells, changes);
+    refusal_number(marks(lists, seat.into(), time.into(), out))
 }

@@ -7,8 +7,8 @@ ghost use Rattle.carriers.specs.Loading.{lists_read};
 ghost use Rattle.host.specs.Results.{header_told, length_told};
 ghost use Rattle.host_lists.specs.Told.{WriteTold};
 
-use host::numbers::{byte_of, short_of};
-use host::results::{HeaderTold, LengthTold, tell_header, tell_length};
+use crate::given::lists_given;
+use host::results::{HeaderTold, LengthTold};
 use list_questions::carrier::check_lists;
 use writing::lists::{length, write};
 
@@ -26,17 +26,8 @@ pub extern "C" fn ricecrock_lists_judge<'a>(
 ) -> HeaderTold
     ensures { result ≡ header_told (checked_of (lists_read seats bound rounds losses.now editors.now times.now cells.now changes.now)) }
 {
-    let checked = check_lists(
-        byte_of(seats),
-        byte_of(bound),
-        short_of(rounds),
-        losses,
-        editors,
-        times,
-        cells,
-        changes,
-    );
-    tell_header(checked)
+    let lists = lists_given(seats, bound, rounds, losses, editors, times, cells, changes);
+    check_lists(lists).into()
 }
 
 // How many bytes the record has.
@@ -53,17 +44,8 @@ pub extern "C" fn ricecrock_lists_length<'a>(
 ) -> LengthTold
     ensures { result ≡ length_told (written_in (needed_by limits seats bound rounds (lists_of losses.now editors.now times.now cells.now changes.now))) }
 {
-    let needed = length(
-        byte_of(seats),
-        byte_of(bound),
-        short_of(rounds),
-        losses,
-        editors,
-        times,
-        cells,
-        changes,
-    );
-    tell_length(needed)
+    let lists = lists_given(seats, bound, rounds, losses, editors, times, cells, changes);
+    length(lists).into()
 }
 
 // Writes the record into the front of the buffer. The bytes past it stay.
@@ -81,16 +63,6 @@ pub extern "C" fn ricecrock_lists_write<'a>(
 ) -> LengthTold
     ensures { WriteTold seats bound rounds (lists_of losses.now editors.now times.now cells.now changes.now) out.old result out.new }
 {
-    let written = write(
-        byte_of(seats),
-        byte_of(bound),
-        short_of(rounds),
-        losses,
-        editors,
-        times,
-        cells,
-        changes,
-        out,
-    );
-    tell_length(written)
+    let lists = lists_given(seats, bound, rounds, losses, editors, times, cells, changes);
+    write(lists, out).into()
 }

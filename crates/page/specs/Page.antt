@@ -1,21 +1,16 @@
 -- Document 01, "The lister's page": the page of a record, whole.
 use Rattle.std.specs.Prelude.{◌++◌, suc}
 use Rattle.farm.specs.Refusals.{number_of}
-use Rattle.record.specs.declared.header.Header.{Header}
 use Rattle.record.specs.Record.{Record, Reading, good, bad}
 use Rattle.questions.specs.Question.{count_of, farm_of_record}
 use Rattle.text.specs.Digits.{Text}
 use Rattle.lines.specs.Lines.{header_line, refused_line}
-use Rattle.lines.specs.declared.printing.HeaderLine.{HeaderLine}
 use Rattle.time_lines.specs.Places.{lines_of}
 
 -- First line: seats, bound, rounds, edits.
-abbrev pub numbers_of : Header → HeaderLine
-numbers_of h = record { seats = h.seats; bound = h.bound; rounds = h.rounds; edits = h.edits }
-
 unfoldable pub record_page : Record → Text
 record_page r =
-    header_line (numbers_of r.header)
+    header_line r.header
     ++ lines_of (farm_of_record r) (λ core. count_of core r.edits) (suc r.header.rounds)
 
 -- A bad record gives one line, `refused` and the number.

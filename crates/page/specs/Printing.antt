@@ -1,6 +1,8 @@
 -- What it means to write a page into a lent buffer, and what reading leaves for it.
-use Rattle.std.specs.Prelude.{◌≡◌, true, cond, List, ◌++◌, ℕ, suc, ◌+◌, ◌≤◌, leb, length, take}
+use Rattle.std.specs.Prelude.{◌≡◌, true, cond, List, ◌++◌, ℕ, suc, ◌+◌, ◌≤◌, leb, length, take, Result, Ok, Err}
 use Rattle.farm.specs.Limits.{limits}
+use Rattle.farm.specs.declared.refusals.Refusal.{Refusal}
+use Rattle.farm.specs.declared.refusals.Refusal.TheVariants.{NoRoom}
 use Rattle.viewing.specs.Counts.{farm_for}
 use Rattle.record.specs.declared.header.Header.{Header}
 use Rattle.questions.specs.Accepted.{Accepted}
@@ -9,11 +11,8 @@ use Rattle.text.specs.Digits.{Text}
 use Rattle.text.specs.Putting.{written}
 use Rattle.lines.specs.Lines.{header_line}
 use Rattle.lines.specs.Printing.{line_room}
-use Rattle.lines.specs.declared.printing.Printed.{Printed}
-use Rattle.lines.specs.declared.printing.Printed.TheVariants.{Length, NoRoom}
 use Rattle.time_lines.specs.Places.{lines_of}
 use Rattle.time_lines.specs.Printing.{count_from, times_room}
-use Rattle.page.specs.Page.{numbers_of}
 
 -- Room for any page.
 abbrev pub page_room : ℕ
@@ -21,8 +20,8 @@ page_room = line_room + times_room
 
 -- The page is written in front of the buffer, and the answer is its length; or there is no room for every page, and no byte
 -- changes. No page is longer than its room.
-pub record PrintsPage (page : Text) (old new : List ℕ) (answer : Printed) : Type 0 where
-  pub answered : answer ≡ cond (leb page_room (length old)) (Length (length page)) NoRoom
+pub record PrintsPage (page : Text) (old new : List ℕ) (answer : Result ℕ Refusal) : Type 0 where
+  pub answered : answer ≡ cond (leb page_room (length old)) (Ok (length page)) (Err NoRoom)
   pub bytes : new ≡ cond (leb page_room (length old)) (written page 0 old) old
   pub short : leb page_room (length old) ≡ true → length page ≤ page_room
 
@@ -39,5 +38,5 @@ pub record Holds (h : Header) (losses seats times : List ℕ) : Type 0 where
 -- Its page.
 abbrev pub page_held : Header → (losses seats times : List ℕ) → Text
 page_held h losses seats times =
-    header_line (numbers_of h)
+    header_line h
     ++ lines_of (farm_for (sizes_of h) (take (loss_count h) losses)) (count_from (take h.edits seats) (take h.edits times)) (suc h.rounds)

@@ -7,67 +7,55 @@ ghost use Rattle.page.specs.Page.{page_of};
 ghost use Rattle.page.specs.Printing.{Holds, PrintsPage, page_held, page_room};
 
 use construction::losers::losers_by;
+use farm::limits::{TABLE_EDITS, TABLE_LOSS_SETS};
 use farm::places::Time;
-use farm::refusals::number;
-use lines::printing::{HeaderLine, Printed, header_line, refused_line};
+use farm::refusals::{Refusal, number};
+use lines::printing::{header_line, refused_line};
 use reading::tables::read;
-use record::answers::Checked;
 use record::header::Header;
-use time_lines::places::{end_of, put_times};
+use telling::edit_places::EditPlaces;
+use time_lines::places::put_times;
+use viewing::farms::Farm;
 use viewing::sizes::Sizes;
 
 // Room for any page, in bytes: a first line, and seven lines for each of 128 times.
 pub const PAGE_ROOM: usize = 86_112;
 
 // The first line, and the lines of all times, of a good record at the front of the tables.
-fn put_page<'a>(
-    losses: &'a [u16],
-    editors: &'a [u8],
-    times: &'a [u16],
-    header: Header,
-    out: &mut [u8],
-) -> usize
+fn put_page(losses: &[u16], editors: &[u8], times: &[u16], header: Header, out: &mut [u8]) -> usize
     requires { Holds header losses.now editors.now times.now × (page_room ≤ length out.old) }
     ensures { PutsWithin page_room (page_held header losses.now editors.now times.now) 0 out.old out.new result }
 {
-    let used = header.seats as usize * header.rounds as usize;
-    let edits = header.edits as usize;
-    let sets = &losses[..used];
-    let sizes = Sizes {
-        seats: header.seats,
-        bound: header.bound,
-        rounds: header.rounds,
+    let sets = header.seats as usize * header.rounds as usize;
+    let held = header.edits as usize;
+    let farm = Farm {
+        sizes: Sizes {
+            seats: header.seats,
+            bound: header.bound,
+            rounds: header.rounds,
+        },
+        losses: &losses[..sets],
     };
-    let first = HeaderLine {
-        seats: header.seats,
-        bound: header.bound,
-        rounds: header.rounds,
-        edits: header.edits,
+    let edits = EditPlaces {
+        editors: &editors[..held],
+        times: &times[..held],
     };
-    let losers = losers_by(sets, sizes, Time(sizes.rounds));
-    let end = end_of(header_line(first, out));
-    put_times(
-        sets,
-        &editors[..edits],
-        &times[..edits],
-        sizes,
-        losers,
-        out,
-        end,
-    )
+    let losers = losers_by(farm, Time(header.rounds));
+    let end = header_line(header, out).unwrap();
+    put_times(farm, edits, losers, out, end)
 }
 
-pub fn write_page(bytes: &[u8], out: &mut [u8]) -> Printed
+pub fn write_page(bytes: &[u8], out: &mut [u8]) -> Result<usize, Refusal>
     ensures { PrintsPage (page_of (reading_of bytes.now)) out.old out.new result }
 {
     if out.len() < PAGE_ROOM {
-        return Printed::NoRoom;
+        return Err(Refusal::NoRoom);
     }
-    let mut losses: [u16; 889] = [0; 889];
-    let mut editors: [u8; 512] = [0; 512];
-    let mut times: [u16; 512] = [0; 512];
-    let mut cells: [u32; 512] = [0; 512];
-    let mut changes: [i16; 512] = [0; 512];
+    let mut losses = [0; TABLE_LOSS_SETS];
+    let mut editors = [0; TABLE_EDITS];
+    let mut times = [0; TABLE_EDITS];
+    let mut cells = [0; TABLE_EDITS];
+    let mut changes = [0; TABLE_EDITS];
     let checked = read(
         bytes,
         &mut losses,
@@ -77,9 +65,7 @@ pub fn write_page(bytes: &[u8], out: &mut [u8]) -> Printed
         &mut changes,
     );
     match checked {
-        Checked::Refused(refusal) => refused_line(number(refusal), out),
-        Checked::Good(header) => {
-            Printed::Length(put_page(&losses, &editors, &times, header, out))
-        }
+        Ok(header) => Ok(put_page(&losses, &editors, &times, header, out)),
+        Err(refusal) => refused_line(number(refusal), out),
     }
 }

@@ -41,7 +41,7 @@ pub fn read_edit(
     let edit = Edit {
         seat: Seat(seat as u8),
         time: Time(time as u16),
-        cell: cell,
+        cell,
         change: unmap_change(change as u16),
     };
     Ok((edit, after_change))

@@ -3,9 +3,8 @@
 use mathlib.Core.Path.{◌≡◌, refl, sym, ◌∙◌}
 use mathlib.Core.Logic.{◌⊎◌, inl, inr, ⊎_elim, ◌≢◌}
 use mathlib.Core.List.{List, [], ◌∷◌, ◌++◌}
-use Prim.Native.Nat.{ℕ, zero, suc, ◌+◌, ◌≤◌, ◌<◌}
+use Prim.Native.Nat.{ℕ, zero, suc, ◌≤◌, ◌<◌}
 use native.Mathlib.Nat.{not-suc-le-zero, eq-or-lt_of_le}
-use native.Mathlib.Numerals.{add-one}
 use native.Mathlib.Omega.{arith}
 use lib.ListN.{length, get_or, set, replicate, length-append, length-set, length-replicate, get_or-replicate, get_or-append, get_or-eq_default}
 use lib.Seq.{get_or-set_same, get_or-set_other, ext_get_or, get_or_at}
@@ -102,7 +101,3 @@ filled-skip m i k f h zeros = filled-equal m i k f f (λ j g. by j (less-or-not 
 pub get_or-filled : (m i : ℕ) (f : ℕ → ℕ) (j : ℕ) → j < m → get_or (filled m i f) j 0 ≡ below i f j
 unfolding filled
 get_or-filled m i f j h = get_d_tabulate m (below i f) j h
-
--- A turn of a loop that fills an array in.
-pub filled-turn : (m q : ℕ) (f : ℕ → ℕ) (l : List ℕ) (x : ℕ) → q < m → l ≡ filled m q f → x ≡ f q → set l q x ≡ filled m (q + 1) f
-filled-turn m q f l x h e ex = rw (e, add-one) (filled_more m q f x h ex)

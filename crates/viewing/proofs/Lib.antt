@@ -1,4 +1,4 @@
-pub mod SetSteps
 pub mod CountLaws
+pub mod Turns
 pub mod ViewSteps
 pub mod CompleteLaws

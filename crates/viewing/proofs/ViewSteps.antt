@@ -2,65 +2,21 @@
 -- Assumes nothing.
 use mathlib.Core.Path.{◌≡◌, refl, sym, ◌∙◌, ap, ap₂}
 use mathlib.Core.Logic.{◌⊎◌, inl, inr, ◌≢◌}
-use mathlib.Core.Bool.{Bool, cond, not}
+use mathlib.Core.Bool.{Bool, cond}
 use mathlib.Core.List.{List, []}
-use Prim.Native.Nat.{ℕ, zero, suc, ◌+◌, ◌*◌, ◌/◌, ◌%◌, ◌^◌, ◌≤◌, ◌<◌, max}
-use native.Mathlib.Numerals.{add-one}
+use Prim.Native.Nat.{ℕ, zero, suc, ◌+◌, ◌*◌, ◌/◌, ◌%◌, ◌≤◌, ◌<◌, max}
 use native.Mathlib.Omega.{arith}
-use lib.Dec.{ltb}
 use lib.IntN.{pos}
-use lib.ListN.{length, get_or, set, replicate}
+use lib.ListN.{get_or, set, replicate}
 use borrow.Author.Tests.{eq-eqb, ne_eqb}
-use Rattle.farm.specs.Sets.{Seats, bit, collect}
+use Rattle.farm.specs.Sets.{Seats, bit}
 use Rattle.farm.proofs.Cases.{less-or-not}
 use Rattle.farm.proofs.SetLaws.{bit-collect}
-use Rattle.knowledge.specs.Farm.{Farm, Place, farm_of}
-use Rattle.knowledge.specs.Settled.{has_place}
+use Rattle.knowledge.specs.Farm.{Farm, farm_of}
 use Rattle.knowledge.specs.Views.{View, up_to, joined, view, views_of}
 use Rattle.viewing.specs.Counts.{room, below, counts, held, view_in, arrives, arrivals, count_at, counts_to, views_to, all_counts, first_counts}
-use Rattle.viewing.proofs.CountLaws.{length-filled, below_in, below_out, filled_none, filled_more, filled-skip, filled-equal, get_or-filled}
-use Rattle.viewing.proofs.SetSteps.{collect-turn}
-
--- ════ Joining ════
-
-pub joined-none : (test : ℕ → Bool) (views : ℕ → View) (q : ℕ) → 0 ≡ joined 0 test views q
-unfolding joined
-joined-none test views q = refl
-
-pub joined-more : (p : ℕ) (test : ℕ → Bool) (views : ℕ → View) (q : ℕ)
-    → max (joined p test views q) (cond (test p) (views p q) 0) ≡ joined (p + 1) test views q
-unfolding joined
-joined-more p test views q = rw (add-one, joined) refl
-
--- A turn at seat p: the count of the seats below p, whether the set has p, and p's own count.
-pub joined-turn : (p : ℕ) (set : Seats) (table : List ℕ) (q count : ℕ) (member : Bool) (result : ℕ) → count ≡ joined p (bit set) (view_in table) q
-    → member ≡ bit set p → result ≡ max count (cond member (get_or table (p * room + q) 0) 0)
-    → result ≡ joined (p + 1) (bit set) (view_in table) q
-unfolding view_in
-joined-turn p set table q count member result before e r = r ∙ (rw (before, e) (joined-more p (bit set) (view_in table) q))
-
--- ════ Whom a seat heard ════
-
-pub heard-turn : (farm : Farm) (r p s : ℕ) (set : Seats) (lost : Bool) (result : Seats) → set ≡ collect s (arrives farm r p)
-    → lost ≡ farm.lost r s p → result ≡ set + cond (not lost) (2 ^ s) 0 → result ≡ collect (s + 1) (arrives farm r p)
-heard-turn farm r p s set lost result e f h = collect-turn s (arrives farm r p) set (not lost) result e (ap not f) h
-
--- ════ The count at the next time ════
-
-pub own-here : (k p q : ℕ) → q ≡ p → k + 1 ≡ up_to p k q
-unfolding up_to
-own-here k p q e = rw (eq-eqb q p e) (add-one k)
-
-pub own-elsewhere : (k p q : ℕ) → q ≢ p → 0 ≡ up_to p k q
-unfolding up_to
-own-elsewhere k p q d = rw (ne_eqb q p d)
-
-pub next-turn : (n heard p q k : ℕ) (table : List ℕ) (own kept received result : ℕ)
-    → own ≡ up_to p (k + 1) q → kept ≡ max own (get_or table (p * room + q) 0) → received ≡ joined n (bit heard) (view_in table) q
-    → result ≡ max kept received
-    → result ≡ max (max (up_to p (suc k) q) (view_in table p q)) (joined n (bit heard) (view_in table) q)
-unfolding view_in
-next-turn n heard p q k table own kept received result e f g h = h ∙ (rw (f, e, g, add-one) refl)
+use Rattle.viewing.proofs.CountLaws.{below_in, below_out, filled_none, filled_more, filled-skip, filled-equal, get_or-filled}
+use Rattle.viewing.proofs.Turns.{turns}
 
 -- ════ Places in the table of all views ════
 
@@ -91,12 +47,9 @@ view-in-all farm k p q small hp hq =
     ∙ below_in (farm.seats * room) (count_at farm k) (p * room + q) (omega arith)
     ∙ count-at-seat farm k p q small hq
 
-pub counts-none : (farm : Farm) (k : ℕ) → replicate (room * room) 0 ≡ views_to farm k 0
+pub counts-zero : (farm : Farm) (k : ℕ) → counts_to farm k 0 ≡ replicate (room * room) 0
 unfolding counts_to
-counts-none farm k = filled_none (room * room) (count_at farm k)
-
-pub views-more : (farm : Farm) (k p : ℕ) (l : List ℕ) → l ≡ views_to farm k (suc p) → l ≡ views_to farm k (p + 1)
-views-more farm k p l e = rw add-one e
+counts-zero farm k = sym (filled_none (room * room) (count_at farm k))
 
 -- ════ Filling in p's view ════
 
@@ -119,22 +72,22 @@ next-is-view farm k p q small hp hq =
     (joined-equal farm.seats (bit (arrivals farm (suc k) p)) (arrives farm (suc k) p) (view_in (all_counts farm k)) (λ s. view farm s k) q
     (λ s l. bit-collect farm.seats (arrives farm (suc k) p) s l) (λ s l. view-in-all farm k s q small l hq))
 
-pub fill-turn : (farm : Farm) (k p q : ℕ) (before next : List ℕ) (from x : ℕ) → farm.seats ≤ room → p < farm.seats → q < farm.seats
-    → before ≡ all_counts farm k → from ≡ arrivals farm (suc k) p → next ≡ counts_to farm (suc k) (p * room + q)
-    → x ≡ max (max (up_to p (suc k) q) (view_in before p q)) (joined farm.seats (bit from) (view_in before) q)
-    → set next (p * room + q) x ≡ counts_to farm (suc k) (p * room + (q + 1))
+pub fill_next : (farm : Farm) (k p q : ℕ) → farm.seats ≤ room → p < farm.seats → q < farm.seats
+    → counts_to farm (suc k) (p * room + (q + 1))
+    ≡ set (counts_to farm (suc k) (p * room + q)) (p * room + q)
+    (max (max (up_to p (suc k) q) (view_in (all_counts farm k) p q)) (joined farm.seats (bit (arrivals farm (suc k) p)) (view_in (all_counts farm k)) q))
 unfolding counts_to
-fill-turn farm k p q before next from x small hp hq eb ef en ex =
+fill_next farm k p q small hp hq =
     let one_more : p * room + (q + 1) ≡ suc (p * room + q) = omega arith in
-    rw (en, one_more)
-    (filled_more (room * room) (p * room + q) (count_at farm (suc k)) x (omega arith)
-    ((rw (eb, ef) at ex) ∙ next-is-view farm k p q small hp hq ∙ sym (count-at-seat farm (suc k) p q small hq)))
+    rw one_more
+    (sym (filled_more (room * room) (p * room + q) (count_at farm (suc k)) _ (omega arith)
+    (next-is-view farm k p q small hp hq ∙ sym (count-at-seat farm (suc k) p q small hq))))
 
-pub fill_end : (farm : Farm) (k p : ℕ) → farm.seats ≤ room → counts_to farm k (p * room + farm.seats) ≡ views_to farm k (suc p)
+pub fill_end : (farm : Farm) (k p q : ℕ) → farm.seats ≤ room → q ≡ farm.seats → counts_to farm k (p * room + q) ≡ views_to farm k (suc p)
 unfolding counts_to
-fill_end farm k p small =
+fill_end farm k p q small e =
     let next-part : suc p * room ≡ p * room + room = omega arith in
-    rw next-part
+    rw (e, next-part)
     (filled-skip (room * room) (p * room + farm.seats) (p * room + room) (count_at farm k) (omega arith) (λ j low high. count_past farm k p j low high))
 
 -- ════ Time 0 ════
@@ -154,13 +107,13 @@ pub first_one : (n p : ℕ) → n ≤ room → p < n → 1 ≡ count_at (farm_of
 unfolding view up_to
 first_one n p small h = sym (count-at-seat (farm_of n 0 0 []) 0 p p small h ∙ (rw (eq-eqb p p refl) refl))
 
-pub first-turn : (n p : ℕ) (first : List ℕ) → n ≤ room → p < n → first ≡ views_to (farm_of n 0 0 []) 0 p
-    → set first (p * room + p) 1 ≡ views_to (farm_of n 0 0 []) 0 (p + 1)
+pub first_next : (n p : ℕ) → n ≤ room → p < n
+    → views_to (farm_of n 0 0 []) 0 (p + 1) ≡ set (views_to (farm_of n 0 0 []) 0 p) (p * room + p) 1
 unfolding counts_to
-first-turn n p first small h e =
-    ap (λ (l : List ℕ). set l (p * room + p) 1) (e ∙ filled-skip (room * room) (p * room) (p * room + p) f (omega arith) before)
+first_next n p small h =
+    sym (ap (λ (l : List ℕ). set l (p * room + p) 1) (filled-skip (room * room) (p * room) (p * room + p) f (omega arith) before)
     ∙ filled_more (room * room) (p * room + p) f 1 (omega arith) (first_one n p small h)
-    ∙ filled-skip (room * room) (suc (p * room + p)) ((p + 1) * room) f (omega arith) after
+    ∙ filled-skip (room * room) (suc (p * room + p)) ((p + 1) * room) f (omega arith) after)
   where
     f : ℕ → ℕ
     f = count_at (farm_of n 0 0 []) 0
@@ -172,10 +125,11 @@ first-turn n p first small h e =
     after j low high = first-zero n p j (omega arith) (omega arith) (λ same. let no : ⊥ = omega arith in absurd no)
 
 -- The same for every table of losses.
-pub first-of-any : (farm : Farm) → first_counts farm.seats ≡ all_counts farm 0
+pub first-all : (farm : Farm) (n : ℕ) → n ≡ farm.seats → views_to farm 0 n ≡ first_counts n
 unfolding first_counts counts_to count_at below view
-first-of-any farm =
-    filled-equal (room * room) (farm.seats * room) (farm.seats * room) (count_at (farm_of farm.seats 0 0 []) 0) (count_at farm 0) (λ j h. refl)
+first-all farm n e =
+    rw e
+    (filled-equal (room * room) (farm.seats * room) (farm.seats * room) (count_at farm 0) (count_at (farm_of farm.seats 0 0 []) 0) (λ j h. refl))
 
 -- ════ Views out of the table ════
 
@@ -187,32 +141,29 @@ counts-equal n v w same = filled-equal room n n v w (λ q h. by q (less-or-not q
     by q (inl l) = below_in n v q l ∙ same q l ∙ sym (below_in n w q l)
     by q (inr l) = below_out n v q l ∙ sym (below_out n w q l)
 
-pub seat-view-is : (farm : Farm) (k p : ℕ) (table : List ℕ) → farm.seats ≤ room → p < farm.seats → table ≡ all_counts farm k
-    → counts farm.seats (view_in table p) ≡ counts farm.seats (view farm p k)
-seat-view-is farm k p table small hp e =
-    counts-equal farm.seats (view_in table p) (view farm p k) (λ q h. rw e (view-in-all farm k p q small hp h))
+pub counts-view : (farm : Farm) (n k p : ℕ) → n ≡ farm.seats → n ≤ room → p < n
+    → counts n (view farm p k) ≡ counts n (view_in (views_to farm k n) p)
+counts-view farm n k p e small hp =
+    rw e
+    (counts-equal farm.seats (view farm p k) (view_in (all_counts farm k) p)
+    (λ q h. sym (view-in-all farm k p q (rw e at small) (rw e at hp) h)))
 
-pub joined-view-is : (farm : Farm) (k : ℕ) (set : Seats) (table : List ℕ) → farm.seats ≤ room → table ≡ all_counts farm k
-    → counts farm.seats (joined farm.seats (bit set) (view_in table)) ≡ counts farm.seats (views_of farm set (pos k))
+pub counts-views_of : (farm : Farm) (n k : ℕ) (set : Seats) → n ≡ farm.seats → n ≤ room
+    → counts n (views_of farm set (pos k)) ≡ counts n (joined n (bit set) (view_in (views_to farm k n)))
 unfolding views_of
-joined-view-is farm k set table small e =
-    counts-equal farm.seats (joined farm.seats (bit set) (view_in table)) (views_of farm set (pos k))
-    (λ q h. joined-equal farm.seats (bit set) (bit set) (view_in table) (λ p. view farm p k) q (λ s l. refl) (λ s l. rw e (view-in-all farm k s q small l h)))
+counts-views_of farm n k set e large =
+    let small = rw e at large in
+    rw e (counts-equal farm.seats (views_of farm set (pos k)) (joined farm.seats (bit set) (view_in (all_counts farm k)))
+    (λ q h. joined-equal farm.seats (bit set) (bit set) (λ p. view farm p k) (view_in (all_counts farm k)) q (λ s l. refl) (λ s l. sym (view-in-all farm k s q small l h))))
 
 -- An array of counts holds the view.
 pub held-counts : (n : ℕ) (v : View) (q : ℕ) → n ≤ room → q < n → held (counts n v) q ≡ v q
 unfolding held counts
 held-counts n v q small h = get_or-filled room n v q (omega arith) ∙ below_in n v q h
 
-pub counts-length : (n : ℕ) (v : View) → length (counts n v) ≡ room
-unfolding counts
-counts-length n v = length-filled room n v
-
 pub counts-at : (n : ℕ) (v : View) (q : ℕ) → n ≤ room → q < n → get_or (counts n v) q 0 ≡ v q
 unfolding held
 counts-at n v q small h = held-counts n v q small h
 
--- A place of one of the seats is in the array's view exactly when it is in the view.
-pub place-in-counts : (n : ℕ) (v : View) (x : Place) → n ≤ room → x.seat.0 < n → has_place (held (counts n v)) x ≡ has_place v x
-unfolding has_place
-place-in-counts n v x small h = ap (ltb x.time.0) (held-counts n v x.seat.0 small h)
+-- By these the check proves the loops over the table of all views by itself.
+pub ruleset view_steps = (turns, counts-zero, fill_next, fill_end, first_next, first-all, counts-view, counts-views_of)

@@ -17,6 +17,7 @@ fn loss_set(losses: &[u16], at: usize) -> u16
 }
 
 // Whether a send was lost in the round that begins at the time.
+#[tactic(auto, unfolding(knowledge::specs::Farm::lost_in))]
 pub fn was_lost(farm: Farm, begun: Time, sender: Seat, receiver: Seat) -> bool
     ensures { result ≡ is_lost (farm_in farm.entry) (after begun) sender receiver }
 {

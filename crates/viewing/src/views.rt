@@ -1,6 +1,8 @@
 // Rule 1 of document 01: what each seat has seen. A view is held as counts, for each seat one more
 // than the latest time seen of it and 0 for none, so that joining two views takes the larger count.
 // The views of all seats go forward together, round by round.
+#![tactic(auto, using(crate::proofs::ViewSteps::view_steps), unfolding(crate::specs::Counts::view_in, crate::specs::Counts::arrivals, crate::specs::Counts::counts, crate::specs::Counts::first_counts, knowledge::specs::Views::up_to))]
+
 ghost use Rattle.std.specs.Prelude.{◌≡◌, cond, max, ◌≤◌, ◌<◌, pos};
 ghost use Rattle.farm.specs.Limits.{limits};
 ghost use Rattle.knowledge.specs.Farm.{after};
