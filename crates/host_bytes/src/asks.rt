@@ -7,17 +7,15 @@ ghost use Rattle.host.specs.Numbers.{seat_named, time_named};
 ghost use Rattle.host.specs.Results.{FillsTold, seen_told, agreed_told, standing_told};
 
 use byte_questions::asks::{agreed, core, marks, seen, standing, view};
-use host::numbers::{SeatNumber, TimeNumber, seat_of, time_of};
-use host::results::{
-    AgreedTold, SeenTold, StandingTold, given_number, tell_agreed, tell_seen, tell_standing,
-};
+use host::numbers::{SeatNumber, TimeNumber};
+use host::results::{AgreedTold, SeenTold, StandingTold, refusal_number};
 
 // What a seat has seen at a time.
 #[unsafe(no_mangle)]
 pub extern "C" fn ricecrock_bytes_seen(bytes: &[u8], seat: SeatNumber, time: TimeNumber) -> SeenTold
     ensures { result ≡ seen_told (seen_asked (reading_of bytes.now) (seat_named seat) (time_named time)) }
 {
-    tell_seen(seen(bytes, seat_of(seat), time_of(time)))
+    seen(bytes, seat.into(), time.into()).into()
 }
 
 // What is agreed at a place.
@@ -29,7 +27,7 @@ pub extern "C" fn ricecrock_bytes_agreed(
 ) -> AgreedTold
     ensures { result ≡ agreed_told (agreed_asked (reading_of bytes.now) (seat_named seat) (time_named time)) }
 {
-    tell_agreed(agreed(bytes, seat_of(seat), time_of(time)))
+    agreed(bytes, seat.into(), time.into()).into()
 }
 
 // Whether a seat is a loser of the whole record.
@@ -37,7 +35,7 @@ pub extern "C" fn ricecrock_bytes_agreed(
 pub extern "C" fn ricecrock_bytes_standing(bytes: &[u8], seat: SeatNumber) -> StandingTold
     ensures { result ≡ standing_told (standing_answer (loser_asked (reading_of bytes.now) (seat_named seat))) }
 {
-    tell_standing(standing(bytes, seat_of(seat)))
+    standing(bytes, seat.into()).into()
 }
 
 // The view of a place, into a lent buffer of at least n numbers.
@@ -50,7 +48,7 @@ pub extern "C" fn ricecrock_bytes_view(
 ) -> u8
     ensures { FillsTold (λ room. view_asked room (reading_of bytes.now) (seat_named seat) (time_named time)) out.old result out.new }
 {
-    given_number(view(bytes, seat_of(seat), time_of(time), out))
+    refusal_number(view(bytes, seat.into(), time.into(), out))
 }
 
 // The core of a place, into a lent buffer of at least n numbers.
@@ -63,7 +61,7 @@ pub extern "C" fn ricecrock_bytes_core(
 ) -> u8
     ensures { FillsTold (λ room. core_asked room (reading_of bytes.now) (seat_named seat) (time_named time)) out.old result out.new }
 {
-    given_number(core(bytes, seat_of(seat), time_of(time), out))
+    refusal_number(core(bytes, seat.into(), time.into(), out))
 }
 
 // Edit marks, into a lent buffer of at least as many bytes as there are edits.
@@ -76,5 +74,5 @@ pub extern "C" fn ricecrock_bytes_marks(
 ) -> u8
     ensures { FillsTold (λ room. marks_asked room (reading_of bytes.now) (seat_named seat) (time_named time)) out.old result out.new }
 {
-    given_number(marks(bytes, seat_of(seat), time_of(time), out))
+    refusal_number(marks(bytes, seat.into(), time.into(), out))
 }

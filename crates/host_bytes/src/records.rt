@@ -5,22 +5,19 @@ ghost use Rattle.record.specs.Document.{reading_of};
 ghost use Rattle.record.specs.Tables.{tables};
 ghost use Rattle.page.specs.Page.{page_of};
 ghost use Rattle.host.specs.Results.{header_told};
-ghost use Rattle.host_bytes.specs.Told.{ReadTold, PageTold, page_written};
+ghost use Rattle.host_bytes.specs.Told.{ReadTold, PageTold};
 
 use checking::whole::check;
-use farm::refusals::Refusal;
-use host::results::{HeaderTold, LengthTold, tell_header, tell_length};
-use lines::printing::Printed;
+use host::results::{HeaderTold, LengthTold};
 use page::whole::write_page;
 use reading::tables::read;
-use record::answers::Written;
 
 // Whether the bytes are a good record: 1 to 6.
 #[unsafe(no_mangle)]
 pub extern "C" fn ricecrock_bytes_check(bytes: &[u8]) -> HeaderTold
     ensures { result ≡ header_told (checked_of (reading_of bytes.now)) }
 {
-    tell_header(check(bytes))
+    check(bytes).into()
 }
 
 // Into lists with room for any record; later entries stay: 7, then 1 to 6.
@@ -37,17 +34,7 @@ pub extern "C" fn ricecrock_bytes_read(
         (tables losses.old editors.old times.old cells.old changes.old) result
         (tables losses.new editors.new times.new cells.new changes.new) }
 {
-    tell_header(read(bytes, losses, editors, times, cells, changes))
-}
-
-// The page as an answer of writing: its length, or 7.
-fn page_written(printed: Printed) -> Written
-    ensures { result ≡ page_written printed }
-{
-    match printed {
-        Printed::Length(length) => Written::Length(length),
-        Printed::NoRoom => Written::Refused(Refusal::NoRoom),
-    }
+    read(bytes, losses, editors, times, cells, changes).into()
 }
 
 // The lister's page of a record, a bad one's too: 7.
@@ -55,5 +42,5 @@ fn page_written(printed: Printed) -> Written
 pub extern "C" fn ricecrock_bytes_page(bytes: &[u8], out: &mut [u8]) -> LengthTold
     ensures { PageTold (page_of (reading_of bytes.now)) out.old result out.new }
 {
-    tell_length(page_written(write_page(bytes, out)))
+    write_page(bytes, out).into()
 }

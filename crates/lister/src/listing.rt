@@ -4,27 +4,25 @@ ghost use Rattle.taking.specs.Input.{input_room};
 ghost use Rattle.lister.specs.Listing.{Lists};
 
 use crate::input::take_input;
-use lines::printing::Printed;
+use farm::refusals::Refusal;
 use page::whole::write_page;
-use std::io::Stdin;
-use taking::reads::Input;
+use std::io::{self, Stdin};
 
+// How many bytes were taken, and the length of their page.
 #[derive(Clone, Copy)]
-pub enum Listed {
-    // The page of so many bytes at the front of the buffer.
-    Page(usize, Printed),
-    Unreadable,
+pub struct Listed {
+    pub taken: usize,
+    pub page: Result<usize, Refusal>,
 }
 
 // Takes the input and writes the page of exactly what was taken: of the bytes at the front of the buffer, up to their count.
-pub fn list_input(stdin: &mut Stdin, buffer: &mut [u8], page: &mut [u8]) -> Listed
+pub fn list_input(stdin: &mut Stdin, buffer: &mut [u8], page: &mut [u8]) -> io::Result<Listed>
     requires { length buffer.old ≡ input_room }
     ensures { Lists buffer.new page.old page.new result }
 {
-    let input = take_input(stdin, buffer);
-    let Input::Taken(taken) = input else {
-        return Listed::Unreadable;
-    };
-    let printed = write_page(&buffer[..taken], page);
-    Listed::Page(taken, printed)
+    let taken = take_input(stdin, buffer)?;
+    Ok(Listed {
+        taken,
+        page: write_page(&buffer[..taken], page),
+    })
 }

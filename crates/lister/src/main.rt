@@ -5,8 +5,7 @@
 mod input; // input.rt: the bytes that are taken from standard input
 mod listing; // listing.rt: the page of what was taken
 
-use crate::listing::{Listed, list_input};
-use lines::printing::Printed;
+use crate::listing::list_input;
 use page::whole::PAGE_ROOM;
 use std::io::Write;
 use taking::reads::TAKEN;
@@ -43,14 +42,13 @@ fn print(rt: &HostRuntime, page: &[u8]) {
 }
 
 fn main(rt: HostRuntime) {
-    let mut record: [u8; TAKEN] = [0; TAKEN];
-    let mut page: [u8; PAGE_ROOM] = [0; PAGE_ROOM];
-    let listed = list_input(&mut rt.stdin(), &mut record, &mut page);
-    match listed {
-        Listed::Unreadable => unreadable(&rt),
-        Listed::Page(taken, printed) => {
-            warn(&rt, taken);
-            if let Printed::Length(length) = printed {
+    let mut record = [0; TAKEN];
+    let mut page = [0; PAGE_ROOM];
+    match list_input(&mut rt.stdin(), &mut record, &mut page) {
+        Err(_) => unreadable(&rt),
+        Ok(listed) => {
+            warn(&rt, listed.taken);
+            if let Ok(length) = listed.page {
                 print(&rt, &page[..length]);
             }
         }

@@ -10,14 +10,13 @@ use lib.Dec.{eqb, ltb}
 use lib.IntN.{ℤ}
 use lib.ListN.{length, length-append}
 use borrow.Author.Tests.{eq-eqb, ne_eqb, ltb-true, eqb-true}
+use Rattle.std.specs.Prelude.{Option, Some, None}
 use Rattle.farm.specs.Limits.{Limits, limits}
 use Rattle.farm.specs.Sets.{Seats}
 use Rattle.farm.proofs.Cases.{and_intro, and-elim}
 use Rattle.farm.specs.declared.places.Seat.{Seat}
 use Rattle.farm.specs.declared.refusals.Refusal.{Refusal}
 use Rattle.record.specs.declared.edits.Edit.{Edit}
-use Rattle.record.specs.declared.edits.Before.{Before}
-use Rattle.record.specs.declared.edits.Before.TheVariants.{Nothing, This}
 use Rattle.record.specs.Edits.{follows}
 use Rattle.record.specs.Faults.{last_of}
 use Rattle.record.specs.Losses.{first_seat, seat_after, good_set}
@@ -83,7 +82,7 @@ sets-append n sender (x ∷ a) b p q =
 -- ════ Edits ════
 
 -- What was good with fewer rounds is good with one more.
-edits-with-round : (L : Limits) (n R : ℕ) (before : Before) (edits : List Edit) → good_edits L n R before edits ≡ true
+edits-with-round : (L : Limits) (n R : ℕ) (before : Option Edit) (edits : List Edit) → good_edits L n R before edits ≡ true
     → good_edits L n (R + 1) before edits ≡ true
 unfolding good_edits
 edits-with-round L n R before [] h = refl
@@ -94,15 +93,15 @@ edits-with-round L n R before (e ∷ edits) h =
     let later : e.time.0 ≤ R + 1 = omega (arith, f.time) in
     and_intro _ _
     (and_intro _ _ (edit-from-facts L n (R + 1) e (record { seat = f.seat; time = later; cell = f.cell; change = f.change })) b.1)
-    (edits-with-round L n R (This e) edits a.1)
+    (edits-with-round L n R (Some e) edits a.1)
 
-edits-append : (L : Limits) (n R : ℕ) (before : Before) (edits : List Edit) (e : Edit) → good_edits L n R before edits ≡ true
+edits-append : (L : Limits) (n R : ℕ) (before : Option Edit) (edits : List Edit) (e : Edit) → good_edits L n R before edits ≡ true
     → good_edit L n R e ≡ true → follows (last_of before edits) e ≡ true → good_edits L n R before (edits ++ (e ∷ [])) ≡ true
 unfolding good_edits last_of
 edits-append L n R before [] e h g f = and_intro _ _ (and_intro _ _ g f) refl
 edits-append L n R before (x ∷ edits) e h g f =
-    let a = and-elim (good_edit L n R x && follows before x) (good_edits L n R (This x) edits) h in
-    and_intro (good_edit L n R x && follows before x) (good_edits L n R (This x) (edits ++ (e ∷ []))) a.0 (edits-append L n R (This x) edits e a.1 g f)
+    let a = and-elim (good_edit L n R x && follows before x) (good_edits L n R (Some x) edits) h in
+    and_intro (good_edit L n R x && follows before x) (good_edits L n R (Some x) (edits ++ (e ∷ []))) a.0 (edits-append L n R (Some x) edits e a.1 g f)
 
 -- ════ The three calls ════
 
@@ -137,7 +136,7 @@ round-good sets r (a, (b, (c, (d, none)))) =
           sets-append r.header.seats first_seat r.losses sets f.losses
           (rw (f.loss_count, rounds-end r.header.seats r.header.rounds (omega (arith, h.fewest))) sound);
       edit_count = f.edit_count;
-      edits = edits-with-round limits r.header.seats r.header.rounds Nothing r.edits f.edits;
+      edits = edits-with-round limits r.header.seats r.header.rounds None r.edits f.edits;
     })
 
 pub edit-good : (seat : Seat) (cell : ℕ) (change : ℤ) (r : Record) → AllPass (tests_of (edit seat cell change) r)
@@ -148,7 +147,7 @@ edit-good seat cell change r (a, (b, (c, (d, none)))) =
     let whole : good_record limits r ≡ true = cc in
     let fits : good_edit limits r.header.seats r.header.rounds e ≡ true = cc in
     let room : ltb r.header.edits limits.most_edits ≡ true = cc in
-    let rising : follows (last_of Nothing r.edits) e ≡ true = cc in
+    let rising : follows (last_of None r.edits) e ≡ true = cc in
     let f = record-facts limits r whole in
     let h = header-facts limits r.header f.header in
     let less : r.header.edits < limits.most_edits = ltb-true _ _ room in
@@ -157,5 +156,5 @@ edit-good seat cell change r (a, (b, (c, (d, none)))) =
       loss_count = f.loss_count;
       losses = f.losses;
       edit_count = rw (length-append, f.edit_count);
-      edits = edits-append limits r.header.seats r.header.rounds Nothing r.edits e f.edits fits rising;
+      edits = edits-append limits r.header.seats r.header.rounds None r.edits e f.edits fits rising;
     })

@@ -4,6 +4,7 @@ use mathlib.Core.Path.{◌≡◌, refl, ◌∙◌}
 use mathlib.Core.Bool.{Bool, true, false, cond}
 use Prim.Native.Nat.{ℕ}
 use native.Mathlib.Omega.{arith}
+use Rattle.std.specs.Prelude.{Err}
 use Rattle.farm.specs.Limits.{limits}
 use Rattle.farm.specs.declared.refusals.Refusal.TheVariants.{BadTable}
 use Rattle.record.specs.Good.{good_record}
@@ -12,7 +13,6 @@ use Rattle.record.specs.Writing.{Verdict, accepted, faulty}
 use Rattle.record.proofs.Promises.{document-numbers-fit}
 use Rattle.record.proofs.ReadBack.{reading-back}
 use Rattle.record.proofs.TakenGood.{reading-taken}
-use Rattle.live.specs.declared.answers.Done.TheVariants.{Refused}
 use Rattle.live_table.specs.declared.table.Table.{Table}
 use Rattle.live.specs.Answers.{done_of}
 use Rattle.live.specs.Calls.{added, kept_or, answer_to, table_after}
@@ -51,7 +51,7 @@ pub refused-call-leaves-the-table : RefusedCallLeavesTheTable
 unfolding table_after kept_or done_of
 refused-call-leaves-the-table call before refusal after (said, left) = left ∙ by (answer_to call before) said
   where
-    by : (v : Verdict) → Refused refusal ≡ done_of v → kept_or v before (added call before) ≡ before
+    by : (v : Verdict) → Err refusal ≡ done_of v → kept_or v before (added call before) ≡ before
     by accepted e = let z : ◌≡◌ {A = ℕ} 0 1 = cc in absurd (omega arith)
     by (faulty other) e = refl
 

@@ -18,11 +18,10 @@ use Rattle.record.specs.Record.{Record}
 use Rattle.record.specs.Tables.{edits_from}
 use Rattle.record.specs.Writing.{Verdict, accepted, faulty}
 use Rattle.record.proofs.GoodLaws.{record-facts}
-use Rattle.live.specs.declared.answers.Done.{Done}
 use Rattle.live_table.specs.declared.table.Table.{Table}
 use Rattle.live_table.specs.Used.{used_record}
 use Rattle.live.specs.Calls.{Call, opening, round, edit, opened_record, with_round, with_edit, present_edit, tests_of, opened_table, table_with_round, table_with_edit, added, kept_or, answer_to, table_after}
-use Rattle.live.specs.Answers.{done_of, Ends}
+use Rattle.live.specs.Answers.{Done, done_of, Ends}
 use Rattle.live.specs.Runs.{Run, stop, step, Told, nothing, told, recorded, recorded_if, record_of_all}
 use Rattle.live.specs.Promises.{CallsHaveARun, RunKeepsTheRecord}
 use Rattle.live_table.proofs.ListLaws.{used_over, edits-from-append, cut-full}

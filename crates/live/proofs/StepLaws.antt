@@ -11,40 +11,27 @@ use lib.ListN.{length}
 use mir.Syntax.{w16}
 use mir.Val.{SFits}
 use borrow.Author.Tests.{le-ltb, lt-ltb, ltb-true, eqb-true}
+use Rattle.std.specs.Prelude.{None, Ok, Err}
 use Rattle.farm.specs.Limits.{limits}
 use Rattle.farm.specs.Sets.{Seats}
 use Rattle.farm.specs.declared.places.Seat.{Seat}
 use Rattle.farm.specs.declared.refusals.Refusal.{Refusal}
 use Rattle.farm.specs.declared.refusals.Refusal.TheVariants.{OutOfRange, BadOrder, RoundsFull, EditsFull, BadTable}
 use Rattle.record.specs.Writing.{lists_of, Verdict, accepted, faulty, unless, header_from, fitting, judged_edits, judged_lists}
+use Rattle.record.specs.Answers.{judged_in}
 use Rattle.record.specs.Changes.{mapped}
 use Rattle.record.specs.Edits.{follows}
 use Rattle.record.specs.Faults.{last_of}
 use Rattle.record.specs.Good.{good_header, good_edit, good_record}
-use Rattle.record.specs.Tables.{over, edits_from}
-use Rattle.record.specs.declared.edits.Before.{Before}
-use Rattle.record.specs.declared.edits.Before.TheVariants.{Nothing}
+use Rattle.record.specs.Tables.{edits_from}
 use Rattle.record.specs.declared.edits.Edit.{Edit}
 use Rattle.record.proofs.GoodLaws.{header-facts, header-from-facts, edit-facts, edit-from-facts, record-facts}
-use Rattle.live.specs.declared.answers.Done.{Done}
-use Rattle.live.specs.declared.answers.Done.TheVariants.{Accepted, Refused}
 use Rattle.live_table.specs.declared.table.Table.{Table}
 use Rattle.live.specs.Answers.{done_of, Ends}
-use Rattle.live.specs.Calls.{Call, opening, round, edit, empty_header, present_edit, round11, round10, round4, edit3, edit12, edit5, tests_of, first_failing, added, kept_or, answer_to, table_after}
-use Rattle.live_table.specs.Used.{used_record, table_of}
+use Rattle.live.specs.Calls.{Call, round, edit, present_edit, round11, round10, round4, edit3, edit12, edit5, tests_of, first_failing, added, kept_or, answer_to, table_after}
+use Rattle.live_table.specs.Used.{used_record}
 use Rattle.live_table.proofs.SoundLaws.{not_so, sets-fit}
 use Rattle.live.proofs.GoodSteps.{all_pass}
-
--- ════ An opening ════
-
-module _ (n t : ℕ) (table : Table) where
-  pub opening-refused : good_header limits (empty_header n t) ≡ false → answer_to (opening n t) table ≡ faulty OutOfRange
-  unfolding answer_to tests_of first_failing unless
-  opening-refused h = rw h
-
-  pub opening-accepted : good_header limits (empty_header n t) ≡ true → answer_to (opening n t) table ≡ accepted
-  unfolding answer_to tests_of first_failing unless
-  opening-accepted h = rw h
 
 -- ════ A round ════
 
@@ -75,11 +62,6 @@ module _ (sets : List Seats) (table : Table) where
         let one : table.seats * 1 ≡ table.seats = omega arith in
         round-on ∙ rw (lt-ltb table.rounds 127 h, header, one, one-round-fits (eqb (length sets) table.seats))
 
--- The table with the new sets in their place.
-pub round-table : (sets : List Seats) (table : Table) {losses : List Seats} → losses ≡ over (table.seats * table.rounds) sets table.losses
-    → table_of losses table.editors table.times table.cells table.changes table.seats table.bound (table.rounds + 1) table.edits ≡ added (round sets) table
-round-table sets table e = rw e
-
 -- ════ An edit ════
 
 -- Every change of sixteen bits has a number in range.
@@ -88,101 +70,82 @@ unfolding mapped
 mapped-fits (pos d) f = let s : d < 2 ^ 15 = f.sfits in omega arith
 mapped-fits (negsuc d) f = let s : d < 2 ^ 15 = f.sfits in omega arith
 
-module _ (seat : Seat) (cell : ℕ) (change : ℤ) (table : Table) where
-  pub edit-bad : good_record limits (used_record table) ≡ false → answer_to (edit seat cell change) table ≡ faulty BadTable
+-- The new edit is the one that the call places at the present time.
+module _ (e : Edit) (table : Table) (now : e.time.0 ≡ table.rounds) where
+  present : present_edit e.seat e.cell e.change (used_record table) ≡ e
+  unfolding used_record
+  present = λ i. record { seat = e.seat; time = record { 0 = sym now i }; cell = e.cell; change = e.change }
+
+  abbrev call : Call
+  call = edit e.seat e.cell e.change
+
+  pub edit-bad : good_record limits (used_record table) ≡ false → answer_to call table ≡ faulty BadTable
   unfolding answer_to tests_of first_failing unless
   edit-bad h = rw h
 
-  abbrev new : Edit
-  new = record { seat = seat; time = record { 0 = table.rounds }; cell = cell; change = change }
-
   module _ (g : good_record limits (used_record table) ≡ true) where
-    abbrev present : Edit
-    present = present_edit seat cell change (used_record table)
-
-    edit-on : answer_to (edit seat cell change) table ≡ first_failing (edit3 present (used_record table) ∷ edit12 (used_record table) ∷ edit5 present (used_record table) ∷ [])
+    edit-on : answer_to call table ≡ first_failing (edit3 e (used_record table) ∷ edit12 (used_record table) ∷ edit5 e (used_record table) ∷ [])
     unfolding answer_to tests_of first_failing unless
-    edit-on = rw g
+    edit-on = rw (g, present)
 
-    edit-out : good_edit limits table.seats table.rounds new ≡ false → answer_to (edit seat cell change) table ≡ faulty OutOfRange
+    edit-out : good_edit limits table.seats table.rounds e ≡ false → answer_to call table ≡ faulty OutOfRange
     unfolding first_failing unless used_record
     edit-out h = edit-on ∙ rw h
 
-    pub edit-no-seat : table.seats ≤ seat.0 → answer_to (edit seat cell change) table ≡ faulty OutOfRange
+    pub edit-no-seat : table.seats ≤ e.seat.0 → answer_to call table ≡ faulty OutOfRange
     unfolding used_record
-    edit-no-seat h = edit-out (not_so _ (λ e.
-        let f = edit-facts limits _ _ new e in
+    edit-no-seat h = edit-out (not_so _ (λ f.
+        let f' = edit-facts limits _ _ e f in
         let k = header-facts limits _ (record-facts limits (used_record table) g).header in omega arith))
 
-    pub edit-no-cell : 65535 < cell → answer_to (edit seat cell change) table ≡ faulty OutOfRange
-    edit-no-cell h = edit-out (not_so _ (λ e. let f = edit-facts limits _ _ new e in omega arith))
+    pub edit-no-cell : 65535 < e.cell → answer_to call table ≡ faulty OutOfRange
+    edit-no-cell h = edit-out (not_so _ (λ f. let f' = edit-facts limits _ _ e f in omega arith))
 
-    module _ (at : seat.0 < table.seats) (in-range : cell ≤ 65535) (fits : SFits w16 change) where
-      sound : good_edit limits table.seats table.rounds new ≡ true
-      sound = let m = mapped-fits change fits in edit-from-facts limits _ _ new (record { seat = omega arith; time = omega arith; cell = in-range; change = m })
+    module _ (at : e.seat.0 < table.seats) (in-range : e.cell ≤ 65535) (fits : SFits w16 e.change) where
+      sound : good_edit limits table.seats table.rounds e ≡ true
+      sound = let m = mapped-fits e.change fits in edit-from-facts limits _ _ e (record { seat = omega arith; time = omega arith; cell = in-range; change = m })
 
-      pub edit-full : 512 ≤ table.edits → answer_to (edit seat cell change) table ≡ faulty EditsFull
+      pub edit-full : 512 ≤ table.edits → answer_to call table ≡ faulty EditsFull
       unfolding first_failing unless used_record
       edit-full h = edit-on ∙ rw (sound, le-ltb table.edits 512 h)
 
-      module _ (room : table.edits < 512) (before : Before) (last : before ≡ last_of Nothing (used_record table).edits) where
-        pub edit-early : follows before new ≡ false → answer_to (edit seat cell change) table ≡ faulty BadOrder
+      module _ (room : table.edits < 512) where
+        pub edit-early : follows (last_of None (used_record table).edits) e ≡ false → answer_to call table ≡ faulty BadOrder
         unfolding first_failing unless used_record
-        edit-early h =
-            let late : follows (last_of Nothing (used_record table).edits) new ≡ false = rw last at h in
-            edit-on ∙ rw (sound, lt-ltb table.edits 512 room, late)
+        edit-early h = edit-on ∙ rw (sound, lt-ltb table.edits 512 room, h)
 
-        pub edit-accepted : follows before new ≡ true → answer_to (edit seat cell change) table ≡ accepted
+        pub edit-accepted : follows (last_of None (used_record table).edits) e ≡ true → answer_to call table ≡ accepted
         unfolding first_failing unless used_record
-        edit-accepted h =
-            let late : follows (last_of Nothing (used_record table).edits) new ≡ true = rw last at h in
-            edit-on ∙ rw (sound, lt-ltb table.edits 512 room, late)
-
--- The table with the new edit in its place.
-pub edit-table : (seat : Seat) (cell : ℕ) (change : ℤ) (table : Table) {editors times cells : List ℕ} {changes : List ℤ}
-    → editors ≡ over table.edits (seat.0 ∷ []) table.editors → times ≡ over table.edits (table.rounds ∷ []) table.times
-    → cells ≡ over table.edits (cell ∷ []) table.cells → changes ≡ over table.edits (change ∷ []) table.changes
-    → table_of table.losses editors times cells changes table.seats table.bound table.rounds (table.edits + 1) ≡ added (edit seat cell change) table
-edit-table seat cell change table who when where' heights = rw (who, when, where', heights)
+        edit-accepted h = edit-on ∙ rw (sound, lt-ltb table.edits 512 room, h)
 
 -- ════ How a call ends ════
 
 module _ (call : Call) (table : Table) where
-  pub refused-ends : (refusal : Refusal) → answer_to call table ≡ faulty refusal → Ends call table (Refused refusal) table
+  pub refused-ends : (refusal : Refusal) → done_of (answer_to call table) ≡ Err refusal → Ends call table (Err refusal) table
   unfolding done_of table_after kept_or
-  refused-ends refusal v = rw v (refl, refl)
-
-  pub accepted-ends : (after : Table) → after ≡ added call table → answer_to call table ≡ accepted
-      → Ends call table Accepted after
-  unfolding done_of table_after kept_or
-  accepted-ends after e v = rw v (refl, e)
-
--- ════ What the tests answer ════
-
-module _ (call : Call) (table : Table) where
-  pub answers-refused : (refusal : Refusal) → answer_to call table ≡ faulty refusal → Refused refusal ≡ done_of (answer_to call table)
-  unfolding done_of
-  answers-refused refusal v = rw v
-
-  pub answers-accepted : answer_to call table ≡ accepted → Accepted ≡ done_of (answer_to call table)
-  unfolding done_of
-  answers-accepted v = rw v
-
-  pub was-refused : (d : Done) (refusal : Refusal) → d ≡ done_of (answer_to call table) → d ≡ Refused refusal → answer_to call table ≡ faulty refusal
-  unfolding done_of
-  was-refused d refusal e f = by (answer_to call table) (sym e ∙ f)
+  refused-ends refusal e = rw (was-refused (answer_to call table) e) (refl, refl)
     where
-      by : (v : Verdict) → done_of v ≡ Refused refusal → v ≡ faulty refusal
-      by accepted g = let z : ◌≡◌ {A = ℕ} 0 1 = cc in absurd (omega arith)
-      by (faulty other) g = let same : other ≡ refusal = cc in ap faulty same
+      was-refused : (v : Verdict) → done_of v ≡ Err refusal → v ≡ faulty refusal
+      was-refused accepted g = cc
+      was-refused (faulty other) g = let same : other ≡ refusal = cc in ap faulty same
 
-  pub was-accepted : (d : Done) → d ≡ done_of (answer_to call table) → d ≡ Accepted → answer_to call table ≡ accepted
+  pub was-accepted : done_of (answer_to call table) ≡ Ok tt → answer_to call table ≡ accepted
   unfolding done_of
-  was-accepted d e f = by (answer_to call table) (sym e ∙ f)
+  was-accepted e = by (answer_to call table) e
     where
-      by : (v : Verdict) → done_of v ≡ Accepted → v ≡ accepted
+      by : (v : Verdict) → done_of v ≡ Ok tt → v ≡ accepted
       by accepted g = refl
-      by (faulty other) g = let z : ◌≡◌ {A = ℕ} 0 1 = cc in absurd (omega arith)
+      by (faulty other) g = cc
+
+  pub accepted-ends : (after : Table) → after ≡ added call table → done_of (answer_to call table) ≡ Ok tt → Ends call table (Ok tt) after
+  unfolding done_of table_after kept_or
+  accepted-ends after e v = rw (was-accepted v) (refl, e)
+
+-- A judgement and a call are answered alike.
+pub judged-done : (v : Verdict) → judged_in v ≡ done_of v
+unfolding judged_in done_of
+judged-done accepted = refl
+judged-done (faulty refusal) = refl
 
 -- What is accepted has room in the arrays.
 pub round-has-room : (sets : List Seats) (table : Table) → answer_to (round sets) table ≡ accepted

@@ -1,5 +1,5 @@
 -- The live calls: what each adds to the record, what it is refused for, and what it leaves in the table.
-use Rattle.std.specs.Prelude.{Bool, List, [], ◌∷◌, ◌++◌, ℕ, ◌+◌, ◌*◌, eqb, ltb, ℤ, length}
+use Rattle.std.specs.Prelude.{Bool, List, [], ◌∷◌, ◌++◌, ℕ, ◌+◌, ◌*◌, eqb, ltb, ℤ, length, None}
 use Rattle.farm.specs.Limits.{limits}
 use Rattle.farm.specs.Sets.{Seats}
 use Rattle.farm.specs.declared.places.Seat.{Seat}
@@ -7,7 +7,6 @@ use Rattle.farm.specs.declared.refusals.Refusal.{Refusal}
 use Rattle.farm.specs.declared.refusals.Refusal.TheVariants.{OutOfRange, BadLossSet, BadOrder, BadLengths, RoundsFull, EditsFull, BadTable}
 use Rattle.record.specs.declared.header.Header.{Header}
 use Rattle.record.specs.declared.edits.Edit.{Edit}
-use Rattle.record.specs.declared.edits.Before.TheVariants.{Nothing}
 use Rattle.record.specs.Edits.{follows}
 use Rattle.record.specs.Faults.{last_of}
 use Rattle.record.specs.Losses.{first_seat}
@@ -90,7 +89,7 @@ abbrev pub edit12 : Record → Test
 edit12 r = (ltb r.header.edits limits.most_edits, EditsFull)
 
 abbrev pub edit5 : Edit → Record → Test
-edit5 e r = (follows (last_of Nothing r.edits) e, BadOrder)
+edit5 e r = (follows (last_of None r.edits) e, BadOrder)
 
 -- The tests of each call, in the order in which they decide. An opening takes a table in any state; every other call tests 19 first.
 unfoldable pub tests_of : Call → Record → List Test

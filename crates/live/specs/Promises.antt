@@ -1,16 +1,14 @@
 -- What is proved of the live table, as statements with names. Each has its proof under the same name in proofs/Promises.antt.
-use Rattle.std.specs.Prelude.{◌≡◌, ◌↔◌, false, List}
+use Rattle.std.specs.Prelude.{◌≡◌, ◌↔◌, false, List, Err}
 use Rattle.farm.specs.Limits.{limits}
 use Rattle.farm.specs.declared.refusals.Refusal.{Refusal}
 use Rattle.farm.specs.declared.refusals.Refusal.TheVariants.{BadTable}
 use Rattle.record.specs.Good.{good_record}
 use Rattle.record.specs.Record.{Record, good, bad, reading_of, bytes_of}
-use Rattle.live.specs.declared.answers.Done.{Done}
-use Rattle.live.specs.declared.answers.Done.TheVariants.{Refused}
 use Rattle.live_table.specs.declared.table.Table.{Table}
 use Rattle.live_table.specs.Used.{used_record, table_reading}
 use Rattle.live.specs.Calls.{Call}
-use Rattle.live.specs.Answers.{Ends}
+use Rattle.live.specs.Answers.{Done, Ends}
 use Rattle.live.specs.Runs.{Run, nothing, told, record_of_all}
 
 -- ════ Refusal 19 ════
@@ -32,7 +30,7 @@ TablePassesExactlyWhenItReadsBack =
 -- A refused call of any kind leaves every entry of the table.
 abbrev pub RefusedCallLeavesTheTable : Type 0
 RefusedCallLeavesTheTable =
-    (call : Call) (before : Table) (refusal : Refusal) (after : Table) → Ends call before (Refused refusal) after → after ≡ before
+    (call : Call) (before : Table) (refusal : Refusal) (after : Table) → Ends call before (Err refusal) after → after ≡ before
 
 -- Every list of calls has a run from a table in any state.
 abbrev pub CallsHaveARun : Type 0

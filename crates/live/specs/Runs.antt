@@ -1,10 +1,8 @@
 -- Any run of calls, from a table in any state, and the record of the calls that were accepted.
-use Rattle.std.specs.Prelude.{List, [], ◌∷◌}
+use Rattle.std.specs.Prelude.{List, [], ◌∷◌, Ok, Err}
 use Rattle.record.specs.Record.{Record}
-use Rattle.live.specs.declared.answers.Done.{Done}
-use Rattle.live.specs.declared.answers.Done.TheVariants.{Accepted, Refused}
 use Rattle.live_table.specs.declared.table.Table.{Table}
-use Rattle.live.specs.Answers.{Ends}
+use Rattle.live.specs.Answers.{Done, Ends}
 use Rattle.live.specs.Calls.{Call, opening, round, edit, opened_record, with_round, with_edit, present_edit}
 
 -- Each call gets the table as the one before left it, and ends as its contract says.
@@ -28,8 +26,8 @@ recorded (edit seat cell change) (told r) = told (with_edit (present_edit seat c
 
 -- A refused call adds nothing.
 unfoldable pub recorded_if : Done → Call → Told → Told
-recorded_if Accepted call before = recorded call before
-recorded_if (Refused refusal) call before = before
+recorded_if (Ok done) call before = recorded call before
+recorded_if (Err refusal) call before = before
 
 -- The record of the calls accepted since the last accepted opening, from the calls and their answers.
 unfoldable pub record_of_all : List Call → List Done → Told → Told

@@ -3,5 +3,5 @@
 #![tactic(auto)]
 
 mod answering; // answering.rt: the tests of a round and of an edit, in their order
-pub mod answers; // answers.rt: what a call answers
-pub mod places; // places.rt: each call on the lent parts of a table, judged and stored in place
+pub mod answers; // answers.rt: what a step hands back
+pub mod places; // places.rt: each call on a table, judged and stored in place

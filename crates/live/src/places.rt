@@ -1,108 +1,59 @@
-// Each call on the parts of a table, lent one by one: its tests, and what an accepted call stores. A refusal writes nothing.
-ghost use Rattle.live_table.specs.Used.{table_of};
+// Each call on a table: its tests, and what an accepted call stores. A refusal writes nothing.
+ghost use Rattle.live.specs.Answers.{Ends};
 ghost use Rattle.live.specs.Calls.{opening, round, edit};
-ghost use Rattle.live.specs.Answers.{Ends, EndsWhole};
 
 use crate::answering::{answer_edit, answer_round};
-use crate::answers::Done;
 use farm::limits::{FEWEST_SEATS, MOST_SEATS};
-use farm::places::Seat;
+use farm::places::{Seat, Time};
 use farm::refusals::Refusal;
 use live_entries::lists::{put_edit, put_sets};
+use live_table::table::Table;
+use record::edits::Edit;
 
-// An opening: 3, or a record with no rounds and no edits. It takes the table's numbers alone: no array is touched.
-pub fn open_into(
-    seats: &mut u8,
-    bound: &mut u8,
-    rounds: &mut u16,
-    edits: &mut u16,
-    players: u8,
-    allowed: u8,
-) -> Done
-    ensures { EndsWhole (opening players allowed) seats.old bound.old rounds.old edits.old result seats.new bound.new rounds.new edits.new }
+// An opening: 3, or a record with no rounds and no edits. No array is touched.
+#[tactic(auto, unfolding(record::specs::Good::good_header, record::specs::Writing::unless, crate::specs::Calls::tests_of, crate::specs::Calls::first_failing, crate::specs::Calls::answer_to, crate::specs::Calls::kept_or, crate::specs::Calls::table_after, crate::specs::Answers::done_of))]
+pub fn open_into(table: &mut Table, seats: u8, bound: u8) -> Result<(), Refusal>
+    ensures { Ends (opening seats bound) table.old result table.new }
 {
-    if (players as u32) < FEWEST_SEATS {
-        return Done::Refused(Refusal::OutOfRange);
+    if (seats as u32) < FEWEST_SEATS {
+        return Err(Refusal::OutOfRange);
     }
-    if MOST_SEATS < players as u32 {
-        return Done::Refused(Refusal::OutOfRange);
+    if MOST_SEATS < seats as u32 {
+        return Err(Refusal::OutOfRange);
     }
-    if players <= allowed {
-        return Done::Refused(Refusal::OutOfRange);
+    if seats <= bound {
+        return Err(Refusal::OutOfRange);
     }
-    *seats = players;
-    *bound = allowed;
-    *rounds = 0;
-    *edits = 0;
-    Done::Accepted
+    table.seats = seats;
+    table.bound = bound;
+    table.rounds = 0;
+    table.edits = 0;
+    Ok(())
 }
 
 // A round: 19, 11, 10, 4. It goes behind the ones held.
-pub fn round_into<'a>(
-    seats: u8,
-    bound: u8,
-    rounds: &mut u16,
-    edits: u16,
-    losses: &mut [u16; 889],
-    editors: &'a [u8; 512],
-    times: &'a [u16; 512],
-    cells: &'a [u32; 512],
-    changes: &'a [i16; 512],
-    sets: &[u16],
-) -> Done
-    ensures { Ends (round sets.now)
-        (table_of losses.old editors.now times.now cells.now changes.now seats bound rounds.old edits) result
-        (table_of losses.new editors.now times.now cells.now changes.now seats bound rounds.new edits) }
+pub fn round_into(table: &mut Table, sets: &[u16]) -> Result<(), Refusal>
+    ensures { Ends (round sets.now) table.old result table.new }
 {
-    let done = *rounds;
-    let answer = answer_round(
-        losses, editors, times, cells, changes, seats, bound, done, edits, sets,
-    );
-    if let Done::Refused(refusal) = answer {
-        return Done::Refused(refusal);
-    }
-    put_sets(losses, seats as usize * done as usize, sets);
-    *rounds = done + 1;
-    Done::Accepted
+    answer_round(table, sets)?;
+    let at = table.seats as usize * table.rounds as usize;
+    put_sets(&mut table.losses, at, sets);
+    table.rounds += 1;
+    Ok(())
 }
 
 // An edit: 19, 3, 12, 5. It goes behind the ones held, at the present time.
-pub fn edit_into(
-    seats: u8,
-    bound: u8,
-    rounds: u16,
-    edits: &mut u16,
-    losses: &[u16; 889],
-    editors: &mut [u8; 512],
-    times: &mut [u16; 512],
-    cells: &mut [u32; 512],
-    changes: &mut [i16; 512],
-    seat: Seat,
-    cell: u32,
-    change: i16,
-) -> Done
-    ensures { Ends (edit seat cell change)
-        (table_of losses.now editors.old times.old cells.old changes.old seats bound rounds edits.old) result
-        (table_of losses.now editors.new times.new cells.new changes.new seats bound rounds edits.new) }
+pub fn edit_into(table: &mut Table, seat: Seat, cell: u32, change: i16) -> Result<(), Refusal>
+    ensures { Ends (edit seat cell change) table.old result table.new }
 {
-    let held = *edits;
-    let answer = answer_edit(
-        losses, editors, times, cells, changes, seats, bound, rounds, held, seat, cell, change,
-    );
-    if let Done::Refused(refusal) = answer {
-        return Done::Refused(refusal);
-    }
-    put_edit(
-        editors,
-        times,
-        cells,
-        changes,
-        held as usize,
+    let new = Edit {
         seat,
-        rounds,
+        time: Time(table.rounds),
         cell,
         change,
-    );
-    *edits = held + 1;
-    Done::Accepted
+    };
+    answer_edit(table, new)?;
+    put_edit(table, new);
+    table.edits += 1;
+    Ok(())
 }

@@ -5,18 +5,18 @@ use mathlib.Core.List.{List}
 use lib.IntN.{ℤ}
 use lib.ListN.{length}
 use mathlib.Core.Bool.{Bool, true, false}
-use Rattle.std.specs.Prelude.{Ok, Err}
+use Rattle.std.specs.Prelude.{Ok}
 use Prim.Native.Nat.{ℕ, suc, ◌<◌, ◌≤◌}
 use native.Mathlib.Omega.{arith}
 use lib.Dec.{leb}
-use borrow.Author.Tests.{ltb-true, leb-true, lt-ltb, le-ltb, le-leb, lt-leb}
+use borrow.Author.Tests.{ltb-true, leb-true, le-leb}
 use Rattle.farm.specs.Limits.{limits}
-use Rattle.farm.specs.Sets.{Seats, bit}
+use Rattle.farm.specs.Sets.{Seats}
 use Rattle.farm.specs.declared.places.Seat.{Seat}
 use Rattle.farm.specs.declared.places.Time.{Time}
 use Rattle.farm.specs.declared.refusals.Refusal.TheVariants.{NoRoom, NoSuchPlace}
 use Rattle.farm.proofs.Cases.{and-elim}
-use Rattle.knowledge.specs.Farm.{Farm, losers}
+use Rattle.knowledge.specs.Farm.{Farm}
 use Rattle.knowledge.specs.Views.{view_of, latest_times}
 use Rattle.knowledge.specs.Known.{known_of}
 use Rattle.knowledge.specs.Settled.{Settled, outcome_of}
@@ -29,7 +29,7 @@ use Rattle.telling.proofs.TimeLaws.{length-counts, counts-bound}
 use Rattle.questions.specs.declared.answers.Seen.{Seen}
 use Rattle.questions.specs.Accepted.{Accepted}
 use Rattle.questions.specs.Answers.{no_times, seen_answer}
-use Rattle.questions.specs.Question.{found, refused, Lent, by_value, buffer, fits, is_place, provided, of_outcome, view_in, known_in, settled_in, loser_in}
+use Rattle.questions.specs.Question.{found, by_value, buffer, fits, is_place, provided, of_outcome, view_in, known_in, settled_in}
 
 -- ════ 8 ════
 
@@ -41,14 +41,6 @@ module _ (farm : Farm) (p : Seat) (ℓ : Time) where
       (ltb-true p.0 farm.seats x.0, leb-true ℓ.0 farm.rounds x.1)
 
   -- ════ Views and known sets: 8, 7 ════
-
-  pub view-nowhere : (lent : Lent) → is_place farm p ℓ ≡ false → view_in lent farm p ℓ ≡ refused NoSuchPlace
-  unfolding view_in provided
-  view-nowhere lent e = rw e
-
-  pub view-tight : (entries : ℕ) → is_place farm p ℓ ≡ true → entries < farm.seats → view_in (buffer entries) farm p ℓ ≡ refused NoRoom
-  unfolding view_in provided fits
-  view-tight entries e tight = rw (e, lt-leb farm.seats entries tight)
 
   pub view-found : (entries : ℕ) → is_place farm p ℓ ≡ true → farm.seats ≤ entries
       → view_in (buffer entries) farm p ℓ ≡ found (latest_times farm.seats (view_of farm p ℓ))
@@ -63,9 +55,6 @@ module _ (farm : Farm) (p : Seat) (ℓ : Time) where
   unfolding known_in provided
   known-found e = rw e
 
-  pub seen-nowhere : is_place farm p ℓ ≡ false → Err NoSuchPlace ≡ seen_answer (view_in by_value farm p ℓ) (known_in farm p ℓ)
-  seen-nowhere e = rw (view-nowhere by_value e) refl
-
   pub seen-found : is_place farm p ℓ ≡ true → (l : List ℤ) (k : ℕ) → l ≡ laid (latest_times farm.seats (view_of farm p ℓ)) no_times → k ≡ known_of farm p ℓ
       → Ok (let seen : Seen = record { latest = l; known = k } in seen) ≡ seen_answer (view_in by_value farm p ℓ) (known_in farm p ℓ)
   seen-found e l k el ek = rw (view-valued e, known-found e, el, ek) refl
@@ -76,15 +65,6 @@ module _ (farm : Farm) (p : Seat) (ℓ : Time) where
       (λ j l. let past = view-past farm p.0 ℓ.0 q j l in omega arith)
 
   -- ════ The settled answer: 8, 7, 9 ════
-
-  pub settled-nowhere : (lent : Lent) (need : ℕ) → is_place farm p ℓ ≡ false → settled_in lent need farm p ℓ ≡ refused NoSuchPlace
-  unfolding settled_in provided
-  settled-nowhere lent need e = rw e
-
-  pub settled-tight : (entries need : ℕ) → is_place farm p ℓ ≡ true → entries < need
-      → settled_in (buffer entries) need farm p ℓ ≡ refused NoRoom
-  unfolding settled_in provided fits
-  settled-tight entries need e tight = rw (e, lt-leb need entries tight)
 
   pub settled-roomy : (entries need : ℕ) → is_place farm p ℓ ≡ true → need ≤ entries
       → settled_in (buffer entries) need farm p ℓ ≡ of_outcome (outcome_of farm p ℓ)
@@ -124,14 +104,3 @@ module _ (sizes : Sizes) (losses : List Seats) (sound : Accepted sizes) (p : Sea
       let seats : sizes.seats ≤ 7 = sound.seats in
       let early : ℓ.0 ≤ 127 = place-in-limits.2 in
       (omega arith, counts-bound sizes.seats (view_of farm p ℓ) view 128 e (view-in-time farm p ℓ 127 early))
-
--- ════ Losers: 8 ════
-
-module _ (farm : Farm) (p : Seat) where
-  pub loser-nowhere : farm.seats ≤ p.0 → loser_in farm p ≡ refused NoSuchPlace
-  unfolding loser_in provided
-  loser-nowhere h = rw (le-ltb p.0 farm.seats h)
-
-  pub loser-found : (b : Bool) → p.0 < farm.seats → b ≡ bit (losers farm) p.0 → loser_in farm p ≡ found b
-  unfolding loser_in provided
-  loser-found b h e = rw (lt-ltb p.0 farm.seats h, e)

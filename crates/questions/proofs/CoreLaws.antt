@@ -118,12 +118,6 @@ outcome-found o s e = rw e
 
 -- ════ What is settled at a place ════
 
-pub settled-not : (n : ℕ) (asked : Asked Settled) (x : Refusal) → asked ≡ refused x → Settles n asked (Err x)
-settled-not n asked x e = record {
-  refuses = λ y (g : Err x ≡ Err y). let which : x ≡ y = cc in e ∙ ap refused which;
-  answers = λ s (g : Err x ≡ Ok s). absurd cc;
-}
-
 pub settled-so : (farm : Farm) → farm.bound < farm.seats → farm.seats ≤ 7 → (p : Seat) (ℓ : Time) → IsSeat farm p → ℓ.0 ≤ 127
     → (answer : Result construction.Settled Refusal) → answer ≡ answer_for farm.seats (outcome_of farm p ℓ)
     → (asked : Asked Settled) → asked ≡ of_outcome (outcome_of farm p ℓ) → Settles farm.seats asked answer

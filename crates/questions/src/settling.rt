@@ -10,6 +10,7 @@ use farm::refusals::Refusal;
 use viewing::farms::Farm;
 
 // An answer by value wants no room.
+#[tactic(auto, unfolding(crate::specs::Question::is_place, crate::specs::Question::provided, crate::specs::Question::fits, crate::specs::Question::settled_in))]
 pub fn settle_at(
     farm: Farm,
     seat: Seat,

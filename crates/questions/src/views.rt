@@ -1,4 +1,6 @@
 // Views, known sets and losers of an accepted record. 8 is tested first, then 7; 9 is never given.
+#![tactic(auto, unfolding(crate::specs::Question::is_place, crate::specs::Question::provided, crate::specs::Question::fits, crate::specs::Question::view_in, crate::specs::Question::known_in, crate::specs::Question::loser_in))]
+
 ghost use Rattle.std.specs.Prelude.{◌≡◌, []};
 ghost use Rattle.viewing.specs.Counts.{farm_for, farm_in};
 ghost use Rattle.questions.specs.Question.{by_value, is_place, view_in, known_in, loser_in};
@@ -16,7 +18,6 @@ use viewing::sizes::Sizes;
 use viewing::views::view_of;
 
 // Whether a seat is below n and a time at most R, whatever was lost: where not, 8 is given.
-#[tactic(auto, unfolding(crate::specs::Question::is_place))]
 pub fn is_place(sizes: Sizes, seat: Seat, time: Time) -> bool
     ensures { result ≡ is_place (farm_for sizes []) seat time }
 {

@@ -1,39 +1,28 @@
 -- Views as they are given: latest times out of counts.
 -- Assumes nothing.
-use mathlib.Core.Path.{◌≡◌, refl, ◌∙◌, ap, ap₂}
+use mathlib.Core.Path.{◌≡◌, refl, ◌∙◌, ap₂}
 use mathlib.Core.Logic.{◌⊎◌, inl, inr, ⊎_elim}
 use mathlib.Core.List.{List, [], ◌∷◌, ◌++◌}
 use Prim.Native.Nat.{ℕ, zero, suc, ◌^◌, ◌<◌, ◌≤◌}
 use native.Mathlib.Nat.{not-suc-le-zero, eq-or-lt_of_le}
 use native.Mathlib.Omega.{arith}
-use lib.IntN.{ℤ, pos, ◌-ℤ◌}
+use lib.IntN.{ℤ}
 use lib.ListN.{length, get_or, length-append, get_or-append}
 use lib.Seq.{get_or_at}
 use mir.Syntax.{w16}
 use mir.Val.{SFits, to_z, of_z}
-use mir.ValLaws.{to_z_pos, to_z-of_z}
+use mir.ValLaws.{to_z-of_z}
 use Rattle.farm.proofs.Cases.{less-or-not}
 use Rattle.knowledge.specs.Views.{View, latest, latest_times}
 use Rattle.viewing.specs.Counts.{counts, held, below, filled}
 use Rattle.viewing.proofs.CountLaws.{get_or-filled, below_in, below_out, length-filled, get_d_past}
 use Rattle.viewing.proofs.ViewSteps.{held-counts}
-use Rattle.construction.proofs.SettleSteps.{minus-at}
 
 -- ════ One latest time ════
-
-latest-is : (count : ℕ) → pos count -ℤ pos 1 ≡ latest count
-latest-is zero = refl
-latest-is (suc count) = minus-at (suc count) 1 (omega arith) ∙ ap pos (omega arith)
 
 latest-fits : (count : ℕ) → count ≤ 2 ^ 15 → SFits w16 (latest count)
 latest-fits zero h = record { sfits = omega arith }
 latest-fits (suc count) h = record { sfits = omega arith }
-
-pub time-fits : (count : ℕ) → count < 2 ^ 15 → SFits w16 (to_z w16 count -ℤ pos 1)
-time-fits count h = rw (to_z_pos w16 count h, latest-is count) (latest-fits count (omega arith))
-
-pub time-is : (count : ℕ) → count < 2 ^ 15 → to_z w16 (of_z w16 (to_z w16 count -ℤ pos 1)) ≡ latest count
-time-is count h = rw (to_z_pos w16 count h, latest-is count) (to_z-of_z w16 (latest count) (latest-fits count (omega arith)))
 
 -- A latest time that was put into a buffer.
 pub time-kept : (count : ℕ) (r : ℤ) → count < 2 ^ 15 → r ≡ latest count → to_z w16 (of_z w16 r) ≡ latest count

@@ -4,5 +4,5 @@ use Rattle.std.proofs.Common.{sym}
 use Rattle.taking.proofs.InputLaws.{room-is}
 use Rattle.lister.proofs.main.Goals as goal
 
-pub list_input-listed-requires : goal.list_input-listed-requires
-list_input-listed-requires c = sym room-is
+pub list_input-requires : goal.list_input-requires
+list_input-requires c = sym room-is

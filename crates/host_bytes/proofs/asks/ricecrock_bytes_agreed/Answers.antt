@@ -6,4 +6,4 @@ use Rattle.host.proofs.AskedLaws.{bytes-sound, agreed-asked}
 use Rattle.host_bytes.proofs.asks.ricecrock_bytes_agreed.Goals as goal
 
 pub returns : goal.returns
-returns c = agreed-asked _ (bytes-sound _ (λ i. omega (arith, c.type_inv.bytes i))) refl _ _ c.seat_of.ensures _ _ c.time_of.ensures c.agreed.ensures c.tell_agreed.ensures
+returns c = agreed-asked _ (bytes-sound _ (λ i. omega (arith, c.type_inv.bytes i))) refl _ _ c.into.ensures _ _ c.into-2.ensures c.agreed.ensures c.into-3.ensures

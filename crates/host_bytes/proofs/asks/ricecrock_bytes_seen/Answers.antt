@@ -6,4 +6,4 @@ use Rattle.host.proofs.AskedLaws.{bytes-sound, seen-asked}
 use Rattle.host_bytes.proofs.asks.ricecrock_bytes_seen.Goals as goal
 
 pub returns : goal.returns
-returns c = seen-asked _ (bytes-sound _ (λ i. omega (arith, c.type_inv.bytes i))) refl _ _ c.seat_of.ensures _ _ c.time_of.ensures c.seen.ensures c.tell_seen.ensures
+returns c = seen-asked _ (bytes-sound _ (λ i. omega (arith, c.type_inv.bytes i))) refl _ _ c.into.ensures _ _ c.into-2.ensures c.seen.ensures c.into-3.ensures

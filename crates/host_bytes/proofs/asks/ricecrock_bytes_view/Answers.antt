@@ -6,4 +6,4 @@ use Rattle.host.proofs.AskedLaws.{bytes-sound, view-asked}
 use Rattle.host_bytes.proofs.asks.ricecrock_bytes_view.Goals as goal
 
 pub returns : goal.returns
-returns c = view-asked _ (bytes-sound _ (λ i. omega (arith, c.type_inv.bytes i))) refl _ _ c.seat_of.ensures _ _ c.time_of.ensures c.view.ensures c.given_number.ensures
+returns c = view-asked _ (bytes-sound _ (λ i. omega (arith, c.type_inv.bytes i))) refl _ _ c.into.ensures _ _ c.into-2.ensures c.view.ensures c.refusal_number.ensures

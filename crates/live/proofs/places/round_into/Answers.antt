@@ -1,49 +1,29 @@
 -- `live::places::round_into` meets its contract: what the tests answer decides whether the round goes behind those held.
 -- Assumes nothing.
-use borrow.Author.Rules.{rules}
-use mathlib.Core.Path.{◌≡◌}
+use mathlib.Core.Path.{◌≡◌, sym}
 use native.Mathlib.Omega.{arith}
-use lib.ListN.{length}
-use Rattle.live_table.specs.declared.table.Table.{Table}
-use Rattle.live_table.specs.Used.{table_of}
+use borrow.Author.Rules.{rules}
+use Rattle.std.specs.Prelude.{Err}
+use Rattle.live_table.proofs.SoundLaws.{Arrays}
 use Rattle.live.specs.Calls.{round}
-use Rattle.live.proofs.StepLaws.{was-refused, was-accepted, round-has-room, round-table, refused-ends, accepted-ends}
+use Rattle.live.proofs.StepLaws.{was-accepted, round-has-room, refused-ends, accepted-ends}
 use Rattle.live.proofs.places.round_into.Goals as goal
 
-pub returns-in-Refused : goal.returns-in-Refused
-returns-in-Refused c =
-    let a = c.args in
-    let held : Table = table_of a.losses.now a.editors.now a.times.now a.cells.now a.changes.now a.seats a.bound a.rounds.now a.edits in
-    refused-ends (round a.sets.now) held _ (was-refused (round a.sets.now) held _ _ c.answer_round-answer.ensures c.in-Refused.is)
-
-pub overflow_mul-seats : goal.overflow_mul-seats
-overflow_mul-seats c =
-    let a = c.args in
-    let held : Table = table_of a.losses.now a.editors.now a.times.now a.cells.now a.changes.now a.seats a.bound a.rounds.now a.edits in
-    let accepts = was-accepted (round a.sets.now) held _ c.answer_round-answer.ensures c.in_default.is in
-    let room = round-has-room a.sets.now held accepts in
-    omega arith
+pub returns-in_err-answer_round : goal.returns-in_err-answer_round
+returns-in_err-answer_round c =
+    let up : c.from_residual.result ≡ Err c.in_err-answer_round.field-0.0 = search rules in
+    rw up (refused-ends (round c.args.sets.now) c.args.table.now _ (sym c.in_err-answer_round.ensures))
 
 pub put_sets-requires : goal.put_sets-requires
 put_sets-requires c =
-    let a = c.args in
-    let held : Table = table_of a.losses.now a.editors.now a.times.now a.cells.now a.changes.now a.seats a.bound a.rounds.now a.edits in
-    let accepts = was-accepted (round a.sets.now) held _ c.answer_round-answer.ensures c.in_default.is in
-    let room = round-has-room a.sets.now held accepts in
-    let long : length a.losses.now ≡ 889 = search rules in
+    let arrays : Arrays c.args.table.now = search rules in
+    let room = round-has-room c.args.sets.now c.args.table.now (was-accepted _ _ (sym c.in_ok-answer_round.ensures)) in
     omega arith
 
-pub overflow_add-rounds : goal.overflow_add-rounds
-overflow_add-rounds c =
-    let a = c.args in
-    let held : Table = table_of a.losses.now a.editors.now a.times.now a.cells.now a.changes.now a.seats a.bound a.rounds.now a.edits in
-    let accepts = was-accepted (round a.sets.now) held _ c.answer_round-answer.ensures c.in_default.is in
-    let room = round-has-room a.sets.now held accepts in
+pub overflow_add-table : goal.overflow_add-table
+overflow_add-table c =
+    let room = round-has-room c.args.sets.now c.args.table.now (was-accepted _ _ (sym c.in_ok-answer_round.ensures)) in
     omega arith
 
 pub returns : goal.returns
-returns c =
-    let a = c.args in
-    let held : Table = table_of a.losses.now a.editors.now a.times.now a.cells.now a.changes.now a.seats a.bound a.rounds.now a.edits in
-    let accepts = was-accepted (round a.sets.now) held _ c.answer_round-answer.ensures c.in_default.is in
-    accepted-ends (round a.sets.now) held _ (round-table a.sets.now held c.put_sets.ensures) accepts
+returns c = accepted-ends (round c.args.sets.now) c.args.table.now _ (rw c.put_sets.ensures) (sym c.in_ok-answer_round.ensures)

@@ -1,32 +1,11 @@
 -- `questions::settling::settle_at` meets its contract: 8, 7, or what the construction answers.
 -- Assumes nothing.
-use Rattle.questions.proofs.AskLaws.{place-in-limits, settled-nowhere, settled-tight, settled-roomy}
-use Rattle.questions.proofs.CoreLaws.{settled-not, settled-so}
-use Rattle.questions.specs.Question.{is_place, buffer}
+use Rattle.questions.proofs.AskLaws.{place-in-limits, settled-roomy}
+use Rattle.questions.proofs.CoreLaws.{settled-so}
+use Rattle.questions.specs.Question.{is_place}
 use Rattle.viewing.specs.Counts.{farm_in}
 use mathlib.Core.Path.{sym, ◌∙◌}
 use Rattle.questions.proofs.settling.settle_at.Goals as goal
-
-pub returns-then-not-is_place : goal.returns-then-not-is_place
-unfolding is_place
-returns-then-not-is_place c =
-    let a = c.args in
-    settled-not _ _ _
-    (settled-nowhere (farm_in a.farm) a.seat a.time (buffer a.room) a.need (sym c.is_place.ensures ∙ c.if-not-is_place.true))
-
-pub returns-then-room-need : goal.returns-then-room-need
-unfolding is_place
-returns-then-room-need c =
-    let a = c.args in
-    settled-not _ _ _
-    (settled-tight (farm_in a.farm) a.seat a.time a.room a.need (sym c.is_place.ensures ∙ c.if-not-is_place.false) c.if-room-need.true)
-
-pub settle-requires : goal.settle-requires
-unfolding is_place
-settle-requires c =
-    let a = c.args in
-    let place = place-in-limits a.farm.sizes a.farm.losses.now c.requires a.seat a.time (sym c.is_place.ensures ∙ c.if-not-is_place.false) in
-    (place.0, c.requires.bound, place.1, place.2)
 
 pub returns : goal.returns
 unfolding is_place

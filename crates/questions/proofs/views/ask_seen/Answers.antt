@@ -1,6 +1,6 @@
 -- `questions::views::ask_seen` meets its contract: 8, or the view's latest times and its known set.
 -- Assumes nothing.
-use Rattle.questions.proofs.AskLaws.{seen-nowhere, seen-found, place-in-limits, view-in-limits}
+use Rattle.questions.proofs.AskLaws.{seen-found, view-in-limits}
 use Rattle.telling.proofs.TimeLaws.{times-held}
 use Rattle.telling.specs.Laid.{laid}
 use Rattle.questions.specs.Answers.{no_times}
@@ -12,16 +12,6 @@ use lib.IntN.{ℤ}
 use mathlib.Core.List.{List}
 use mathlib.Core.Path.{sym, ◌∙◌, ap}
 use Rattle.questions.proofs.views.ask_seen.Goals as goal
-
-pub returns-then-not-is_place : goal.returns-then-not-is_place
-unfolding is_place
-returns-then-not-is_place c = seen-nowhere _ _ _ (sym c.is_place.ensures ∙ c.if-not-is_place.true)
-
-pub view_of-view-requires : goal.view_of-view-requires
-unfolding is_place
-view_of-view-requires c =
-    let a = c.args in
-    place-in-limits a.farm.sizes a.farm.losses.now c.requires a.seat a.time (sym c.is_place.ensures ∙ c.if-not-is_place.false)
 
 pub put_times-requires : goal.put_times-requires
 unfolding is_place

@@ -8,14 +8,8 @@ use Rattle.viewing.specs.Counts.{held}
 use lib.IntN.{pos}
 use lib.ListN.{length, get_or}
 use native.Mathlib.Omega.{arith}
-use mathlib.Core.Path.{◌≡◌, refl, sym, ◌∙◌}
+use mathlib.Core.Path.{◌≡◌, sym, ◌∙◌}
 use Rattle.telling.proofs.times.put_times.Goals as goal
-
-pub loop-q-init : goal.loop-q-init
-loop-q-init c = refl
-
-pub latest_time-requires : goal.latest_time-requires
-latest_time-requires c = c.requires.2 c.loop-q.q
 
 pub loop-q-preserved : goal.loop-q-preserved
 unfolding held
