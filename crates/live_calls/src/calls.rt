@@ -5,11 +5,11 @@ ghost use Rattle.live.specs.Answers.{Ends};
 
 use crate::steps::{opened, with_edit, with_round};
 use farm::places::Seat;
-use live::answers::Done;
+use farm::refusals::Refusal;
 use live_table::table::Table;
 
 // Opens a table in any state for a new record: 3.
-pub fn open(table: &mut Table, seats: u8, bound: u8) -> Done
+pub fn open(table: &mut Table, seats: u8, bound: u8) -> Result<(), Refusal>
     ensures { Ends (opening seats bound) table.old result table.new }
 {
     let step = opened(*table, seats, bound);
@@ -18,7 +18,7 @@ pub fn open(table: &mut Table, seats: u8, bound: u8) -> Done
 }
 
 // Adds a round, a loss set for each sender: 19, 11, 10, 4.
-pub fn add_round(table: &mut Table, sets: &[u16]) -> Done
+pub fn add_round(table: &mut Table, sets: &[u16]) -> Result<(), Refusal>
     ensures { Ends (round sets.now) table.old result table.new }
 {
     let step = with_round(*table, sets);
@@ -27,7 +27,7 @@ pub fn add_round(table: &mut Table, sets: &[u16]) -> Done
 }
 
 // Adds an edit at the present time: 19, 3, 12, 5.
-pub fn add_edit(table: &mut Table, seat: Seat, cell: u32, change: i16) -> Done
+pub fn add_edit(table: &mut Table, seat: Seat, cell: u32, change: i16) -> Result<(), Refusal>
     ensures { Ends (edit seat cell change) table.old result table.new }
 {
     let step = with_edit(*table, seat, cell, change);
