@@ -1,46 +1,21 @@
--- One turn of the loops that look for a lost send, each law over plain values.
+-- Known sets: they depend on the counts of the seats alone, so arrays of counts give the same. Each law over plain values.
 -- Assumes nothing.
-use mathlib.Core.Path.{◌≡◌, refl, sym, ◌∙◌, ap, ap₂}
-use mathlib.Core.Bool.{Bool, true, false, ◌&&◌, ◌||◌}
+use mathlib.Core.Path.{◌≡◌, refl, sym, ap, ap₂}
+use mathlib.Core.Bool.{Bool, ◌&&◌, ◌||◌}
 use mathlib.Core.List.{List}
-use Prim.Native.Nat.{ℕ, zero, suc, ◌-◌, ◌≤◌, ◌<◌}
+use Prim.Native.Nat.{ℕ, zero, suc, ◌≤◌, ◌<◌}
 use native.Mathlib.Omega.{arith}
 use lib.Dec.{ltb}
-use borrow.Author.Tests.{lt-ltb}
 use Rattle.farm.specs.Sets.{Seats, any}
 use Rattle.farm.specs.declared.places.Time.{Time}
-use Rattle.farm.proofs.SetLaws.{any-intro, any_none, collect-equal, bit-collect}
+use Rattle.farm.proofs.SetLaws.{collect-equal, bit-collect}
 use Rattle.knowledge.specs.Farm.{Farm}
 use Rattle.knowledge.specs.Views.{View, view}
 use Rattle.knowledge.specs.Known.{missed_at, missed, known_in}
 use Rattle.viewing.specs.Counts.{room, counts, held, view_in, views_to, all_counts}
-use Rattle.construction.specs.KnownSets.{lost_before, known_sets}
+use Rattle.construction.specs.KnownSets.{known_sets}
 use Rattle.construction.proofs.Turns.{turns}
 use Rattle.viewing.proofs.ViewSteps.{view-in-all, counts-equal, held-counts}
-
--- ════ Looking for one that passes ════
-
-pub any_found : (n : ℕ) (test : ℕ → Bool) (i : ℕ) (b : Bool) → i < n → b ≡ test i → b ≡ true → true ≡ any n test
-any_found n test i b h e t = sym (any-intro n test i h (sym e ∙ t))
-
-pub any-end : (q n : ℕ) (test : ℕ → Bool) → n ≤ q → any q test ≡ false → false ≡ any n test
-unfolding any
-any-end q zero test h e = refl
-any-end q (suc n) test h e = rw (← any-end q n test (omega arith) e) (sym (any_none q test n h e))
-
--- ════ One sender and one receiver ════
-
-pub lost-at : (farm : Farm) (z q r : ℕ) (b : Bool) → 1 ≤ r → b ≡ farm.lost (suc (r - 1)) z q → b ≡ (ltb 0 r && farm.lost r z q)
-lost-at farm z q r b begun e =
-    let same : suc (r - 1) ≡ r = omega arith in
-    rw (lt-ltb 0 r begun, ← same) e
-
-pub lost-found : (farm : Farm) (z q r count : ℕ) (b : Bool) → 1 ≤ r → r < count
-    → b ≡ farm.lost (suc (r - 1)) z q → b ≡ true → true ≡ lost_before farm z q count
-unfolding lost_before
-lost-found farm z q r count b begun h e found = any_found count (λ s. ltb 0 s && farm.lost s z q) r b h (lost-at farm z q r b begun e) found
-
--- ════ A view ════
 
 pub any-equal : (n : ℕ) (f g : ℕ → Bool) → ((i : ℕ) → i < n → f i ≡ g i) → any n f ≡ any n g
 unfolding any

@@ -1,4 +1,5 @@
 pub mod Turns
+pub mod AnyOf
 pub mod KnownSteps
 pub mod SettleSteps
 pub mod CompleteLaws

@@ -61,9 +61,6 @@ counts-core_late farm n ℓ known e within late =
     let w = rw e at within in
     rw (e, ← critical-is farm ℓ known w, minus-at ℓ (farm.bound + 1 - size farm.seats known) (rw e at late)) refl
 
--- By these the check proves `core_view` by itself.
-pub ruleset core_steps = (counts-core_early, counts-core_late)
-
 -- ════ A step ════
 
 pub shrinks-falling : (farm : Farm) (ℓ : ℕ) (known : Seats) → Shrinks farm (time ℓ) known → Falling farm ℓ known
@@ -149,9 +146,6 @@ unfolding reached
 settled-here farm n ℓ left steps known s same =
     rw (settle-ends farm ℓ left steps known same, ← critical-is farm ℓ known s.within) refl
 
--- By these the check proves `settle_from` by itself.
-pub ruleset step_rules = (next-is, next-shrinks, next_less, settle-continues, settled-here)
-
 -- ════ The asking seat's own known set ════
 
 pub own-shrinks : (farm : Farm) → farm.bound < farm.seats → (p : Seat) (ℓ : Time) → IsSeat farm p → (known : Seats)
@@ -160,5 +154,5 @@ own-shrinks farm fits p ℓ hp known e within =
     let same = stage-start farm p ℓ hp ∙ sym e in
     falling-shrinks farm ℓ.0 known (rw same at (stage-falls farm fits p ℓ hp (rw same within) 0))
 
--- By these the check proves `settle` by itself, but for what it says of the seat's own known set.
-pub ruleset settle_steps = (settle-over, settle-within)
+-- By these the check proves the construction by itself, but for what `settle` says of the seat's own known set.
+pub ruleset settle_steps = (counts-core_early, counts-core_late, next-is, next-shrinks, next_less, settle-continues, settled-here, settle-over, settle-within)

@@ -1,4 +1,6 @@
 // Rule 2 of document 01: which seats a view shows to have lost a send.
+#![tactic(auto, using(crate::proofs::KnownSteps::known_steps))]
+
 ghost use Rattle.std.specs.Prelude.{◌≡◌, ◌≤◌, ◌<◌};
 ghost use Rattle.farm.specs.Limits.{limits};
 ghost use Rattle.knowledge.specs.Known.{known_in, known_of};
@@ -18,30 +20,26 @@ pub struct KnownSets {
 }
 
 // Whether a send of z to q was lost in a round that ends before the count.
-#[tactic(auto, using(crate::proofs::KnownSteps::known_steps), unfolding(crate::specs::KnownSets::lost_before))]
 fn missed_at(farm: Farm, z: Seat, q: Seat, count: u16) -> bool
     ensures { result ≡ is_lost_before (farm_in farm.entry) z q count }
 {
-    for r in 1..count {
-        if was_lost(farm, Time(r - 1), z, q) {
-            return true;
-        }
-    }
-    false
+    (1..count).any(
+        |r|
+            requires { 1 ≤ r }
+        { was_lost(farm, Time(r - 1), z, q) },
+    )
 }
 
 // Whether a send of z into a place of the view was lost.
-#[tactic(auto, using(crate::proofs::KnownSteps::known_steps), unfolding(knowledge::specs::Known::missed, knowledge::specs::Known::missed_at, crate::specs::KnownSets::lost_before, viewing::specs::Counts::held))]
 fn missed_in(farm: Farm, view: &[u16; ROOM], z: Seat) -> bool
     requires { farm.sizes.seats ≤ limits.most_seats }
     ensures { result ≡ is_missed (farm_in farm.entry) (held view.now) z }
 {
-    for q in 0..farm.sizes.seats {
-        if missed_at(farm, z, Seat(q), view[q as usize]) {
-            return true;
-        }
-    }
-    false
+    (0..farm.sizes.seats).any(
+        |q|
+            requires { q < limits.most_seats }
+        { missed_at(farm, z, Seat(q), view[q as usize]) },
+    )
 }
 
 // The known set of a view.
@@ -58,7 +56,6 @@ pub fn known_in(farm: Farm, view: &[u16; ROOM]) -> u16
 }
 
 // The known set of a place's view.
-#[tactic(auto, using(crate::proofs::KnownSteps::known_steps))]
 pub fn known_of(farm: Farm, seat: Seat, time: Time) -> u16
     requires { (farm.sizes.seats ≤ limits.most_seats) × (seat.0 < farm.sizes.seats) × (time.0 ≤ limits.most_rounds) }
     ensures { result ≡ known_of (farm_in farm.entry) seat time }
@@ -68,7 +65,6 @@ pub fn known_of(farm: Farm, seat: Seat, time: Time) -> u16
 }
 
 // The known set of one seat's view in a table of all views.
-#[tactic(auto, using(crate::proofs::KnownSteps::known_steps))]
 fn known_at(farm: Farm, views: &[u16; TABLE], seat: Seat) -> u16
     requires { (farm.sizes.seats ≤ limits.most_seats) × (seat.0 < limits.most_seats) }
     ensures { result ≡ known_in (farm_in farm.entry) (seat_view views.now seat) }

@@ -1,4 +1,6 @@
 // Losers and clean seats: who lost a send in any of the rounds up to a time, or of the whole record.
+#![tactic(auto, using(crate::proofs::KnownSteps::known_steps), unfolding(knowledge::specs::Farm::losers_by))]
+
 ghost use Rattle.std.specs.Prelude.{◌≡◌, ◌≤◌, ◌<◌};
 ghost use Rattle.farm.specs.Limits.{limits};
 ghost use Rattle.knowledge.specs.Farm.{after, losers_by};
@@ -11,33 +13,20 @@ use viewing::losses::was_lost;
 use viewing::sets::with_seat;
 
 // Whether a send of z was lost in the round that begins at the time.
-#[tactic(auto, using(crate::proofs::KnownSteps::known_steps), unfolding(knowledge::specs::Farm::loses_in))]
 fn loses_in(farm: Farm, begun: Time, z: Seat) -> bool
     ensures { result ≡ is_loser_in (farm_in farm.entry) (after begun) z }
 {
-    for q in 0..farm.sizes.seats {
-        if was_lost(farm, begun, z, Seat(q)) {
-            return true;
-        }
-    }
-    false
+    (0..farm.sizes.seats).any(|q| was_lost(farm, begun, z, Seat(q)))
 }
 
 // Whether a send of z was lost in the rounds up to the time.
-#[tactic(auto, using(crate::proofs::KnownSteps::known_steps), unfolding(knowledge::specs::Farm::loses_by))]
 fn loses_by(farm: Farm, time: Time, z: Seat) -> bool
     ensures { result ≡ is_loser_by (farm_in farm.entry) time z }
 {
-    for k in 0..time.0 {
-        if loses_in(farm, Time(k), z) {
-            return true;
-        }
-    }
-    false
+    (0..time.0).any(|k| loses_in(farm, Time(k), z))
 }
 
 // The losers by a time.
-#[tactic(auto, using(crate::proofs::KnownSteps::known_steps), unfolding(knowledge::specs::Farm::losers_by))]
 pub fn losers_by(farm: Farm, time: Time) -> u16
     requires { farm.sizes.seats ≤ limits.most_seats }
     ensures { result ≡ losers_by (farm_in farm.entry) time }
@@ -50,7 +39,6 @@ pub fn losers_by(farm: Farm, time: Time) -> u16
 }
 
 // Whether a seat is a loser of the whole record; every other seat is clean.
-#[tactic(auto, using(crate::proofs::KnownSteps::known_steps), unfolding(knowledge::specs::Farm::losers_by))]
 pub fn is_loser(farm: Farm, seat: Seat) -> bool
     requires { seat.0 < farm.sizes.seats }
     ensures { result ≡ is_loser (farm_in farm.entry) seat }

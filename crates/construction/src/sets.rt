@@ -1,4 +1,6 @@
 // Sets of seats: the seats outside one, and how many one has.
+#![tactic(auto, using(crate::proofs::Turns::turns), unfolding(farm::specs::Sets::outside))]
+
 ghost use Rattle.std.specs.Prelude.{◌≡◌, ◌≤◌};
 ghost use Rattle.farm.specs.Limits.{limits};
 ghost use Rattle.farm.specs.Sets.{outside, size};
@@ -8,7 +10,6 @@ use farm::sets::holds;
 use viewing::sets::with_seat;
 
 // The seats that are not in the set.
-#[tactic(auto, using(crate::proofs::Turns::turns), unfolding(farm::specs::Sets::outside))]
 pub fn seats_outside(set: u16, seats: u8) -> u16
     requires { seats ≤ limits.most_seats }
     ensures { result ≡ outside seats set }
@@ -21,7 +22,6 @@ pub fn seats_outside(set: u16, seats: u8) -> u16
 }
 
 // How many seats are in the set.
-#[tactic(auto, using(crate::proofs::Turns::turns))]
 pub fn size_of(set: u16, seats: u8) -> u8
     ensures { result ≡ size seats set }
 {

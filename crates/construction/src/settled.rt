@@ -1,5 +1,7 @@
 // Rules 3 to 6 of document 01: the construction. It begins with the known set of the asking seat's own
 // view, and takes step after step, each from the last, to the first that changes nothing.
+#![tactic(auto, using(crate::proofs::SettleSteps::settle_steps))]
+
 ghost use Rattle.std.specs.Prelude.{◌≡◌, ◌+◌, ◌-◌, ◌≤◌, ◌<◌, pos, ◌-ℤ◌};
 ghost use Rattle.farm.specs.Limits.{limits};
 ghost use Rattle.farm.specs.Sets.{size};
@@ -41,7 +43,6 @@ fn time_back(time: Time, delay: u16) -> i16
 }
 
 // The view of all seats outside the known set at the critical time that follows from it.
-#[tactic(auto, using(crate::proofs::SettleSteps::core_steps))]
 fn core_view(farm: Farm, time: Time, known: u16) -> Counts
     requires { (farm.sizes.seats ≤ limits.most_seats) × (time.0 ≤ limits.most_rounds) × (size farm.sizes.seats known ≤ farm.sizes.bound) }
     ensures { result.of ≡ counts farm.entry.sizes.seats (core_at (farm_in farm.entry) time known) }
@@ -55,7 +56,6 @@ fn core_view(farm: Farm, time: Time, known: u16) -> Counts
 }
 
 // The steps from a known set on: where the next known set is the same, they are done.
-#[tactic(auto, using(crate::proofs::SettleSteps::step_rules))]
 fn settle_from(farm: Farm, time: Time, steps: u8, known: u16) -> Settled
     requires seats_le_most_seats { (farm.sizes.seats ≤ limits.most_seats) × (farm.sizes.bound < farm.sizes.seats) × (time.0 ≤ limits.most_rounds) × (steps + size farm.sizes.seats known ≤ 255) }
     requires shrinks { Shrinks (farm_in farm) time known }
@@ -76,7 +76,6 @@ fn settle_from(farm: Farm, time: Time, steps: u8, known: u16) -> Settled
 }
 
 // What a seat gets at a time; of the refusals only OverBound (9) is given here.
-#[tactic(auto, using(crate::proofs::SettleSteps::settle_steps))]
 pub fn settle(farm: Farm, seat: Seat, time: Time) -> Result<Settled, Refusal>
     requires { (farm.sizes.seats ≤ limits.most_seats) × (farm.sizes.bound < farm.sizes.seats) × (seat.0 < farm.sizes.seats) × (time.0 ≤ limits.most_rounds) }
     ensures { result ≡ answer_for farm.entry.sizes.seats (outcome_of (farm_in farm.entry) seat time) }

@@ -31,6 +31,7 @@ pub extern "C" fn ricecrock_lists_judge<'a>(
 }
 
 // How many bytes the record has.
+#[tactic(auto, unfolding(record::specs::Writing::needed_by))]
 #[unsafe(no_mangle)]
 pub extern "C" fn ricecrock_lists_length<'a>(
     seats: u32,
@@ -49,6 +50,7 @@ pub extern "C" fn ricecrock_lists_length<'a>(
 }
 
 // Writes the record into the front of the buffer. The bytes past it stay.
+#[tactic(auto, unfolding(record::specs::Writing::written_to, record::specs::Writing::buffer_after))]
 #[unsafe(no_mangle)]
 pub extern "C" fn ricecrock_lists_write<'a>(
     seats: u32,

@@ -1,18 +1,18 @@
--- `construction::known::missed_at` meets its contract: before round r none of the rounds below r has lost the send.
+-- `construction::known::missed_at` meets its contract: `any` looks for one of the rounds below the count that lost the send.
 -- Assumes nothing.
-use Rattle.construction.proofs.KnownSteps.{any-end, lost-found}
-use Rattle.construction.specs.KnownSets.{lost_before}
+use Rattle.std.proofs.Common.{rules, refl, ◌∙◌}
+use borrow.Author.Tests.{tests}
+use Rattle.std.proofs.lemmas.Iterator.{YieldsList-from_range}
+use Rattle.std.proofs.lemmas.Iterator.Search.{any_from_yields_List}
+use Rattle.construction.proofs.AnyOf.{any-rounds}
 use Rattle.viewing.specs.Counts.{farm_in}
-use native.Mathlib.Omega.{arith}
+use Prim.Native.Nat.{ℕ, suc, ◌-◌}
+use Rattle.construction.specs.KnownSets.{lost_before}
 use Rattle.construction.proofs.known.missed_at.Goals as goal
-
-pub returns-then-was_lost : goal.returns-then-was_lost
-returns-then-was_lost c =
-    let a = c.args in
-    let l = c.loop-r in
-    lost-found (farm_in a.farm) a.z.0 a.q.0 l.r a.count
-    c.was_lost.result (omega arith) c.loop-r-test.true c.was_lost.ensures c.if-was_lost.true
 
 pub returns : goal.returns
 unfolding lost_before
-returns c = any-end c.loop-r.r c.args.count _ c.loop-r-test.false c.loop-r.invariant
+returns c =
+    let a = c.args in
+    let lost = λ (r : ℕ). (farm_in a.farm).lost r a.z.0 a.q.0 in
+    any_from_yields_List (λ r. lost (suc (r - 1))) _ _ _ c.any.ensures.ran (YieldsList-from_range 1 _ _ refl refl) (λ x b q k. search (rules, tests)) ∙ any-rounds _ lost
