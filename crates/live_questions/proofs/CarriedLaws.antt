@@ -4,12 +4,11 @@ use mathlib.Core.Path.{◌≡◌, refl, sym}
 use mathlib.Core.Bool.{true, false}
 use mathlib.Core.List.{List}
 use Prim.Native.Nat.{ℕ}
-use native.Mathlib.Omega.{arith}
+use Rattle.std.specs.Prelude.{Ok, Err}
 use Rattle.farm.specs.Limits.{limits}
 use Rattle.farm.specs.declared.refusals.Refusal.TheVariants.{BadTable}
 use Rattle.record.specs.Answers.{checked_of}
 use Rattle.record.specs.Good.{good_record}
-use Rattle.record.specs.declared.answers.Checked.TheVariants.{Good, Refused}
 use Rattle.carriers.specs.Carried.{Holds, Carried}
 use Rattle.live_table.specs.declared.table.Table.{Table}
 use Rattle.live_table.specs.Used.{used_record, table_reading}
@@ -17,15 +16,15 @@ use Rattle.live_table.proofs.UsedLaws.{reading-good, reads-bad}
 use Rattle.live_questions.proofs.WriteLaws.{columns}
 
 module _ (table : Table) where
-  pub carried-bad : (losses who when : List ℕ) → good_record limits (used_record table) ≡ false → Carried (table_reading table) (Refused BadTable) losses who when
+  pub carried-bad : (losses who when : List ℕ) → good_record limits (used_record table) ≡ false → Carried (table_reading table) (Err BadTable) losses who when
   unfolding checked_of
   carried-bad losses who when h = record {
     told = rw (reads-bad table h) refl;
-    holds = λ w is. let e = reads-bad table h in let z : ◌≡◌ {A = ℕ} 0 1 = cc in absurd (omega arith);
+    holds = λ w is. let e = reads-bad table h in absurd cc;
   }
 
   pub carried-good : good_record limits (used_record table) ≡ true
-      → Carried (table_reading table) (Good (record { seats = table.seats; bound = table.bound; rounds = table.rounds; edits = table.edits })) table.losses table.editors table.times
+      → Carried (table_reading table) (Ok (record { seats = table.seats; bound = table.bound; rounds = table.rounds; edits = table.edits })) table.losses table.editors table.times
   unfolding checked_of used_record
   carried-good g = record {
     told = rw (reading-good table g) refl;

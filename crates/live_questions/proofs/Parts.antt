@@ -65,7 +65,7 @@ module _ {M : Type 1} {𝓤 : Ura M} (𝓛 : Logic 𝓤) where
   abbrev pub the-changes : Field 𝓛 Table.the_type Table'.the_laws
   the-changes = lent (Array i16 512) 8 5368 (λ t. t.changes) refl (part_field 𝓛 Table.the_type Table'.the_laws Table'.the_copy 8 5368 refl refl (λ t. (Table.struct).as_values t) (λ t. refl))
 
--- all of the table, in the order in which the functions of `src/lent.rt` take it
+-- all of the table: its arrays, and then its numbers
 abbrev pub the_parts : {M : Type 1} {𝓤 : Ura M} (𝓛 : Logic 𝓤) (𝓜 : Model 𝓤 𝓛.H) → Fields 𝓛 Table.the_type Table'.the_laws
 the_parts 𝓛 𝓜 =
     the-losses 𝓛

@@ -3,34 +3,24 @@
 use mathlib.Core.Path.{◌≡◌, refl, sym, ◌∙◌}
 use mathlib.Core.Bool.{true, false}
 use mathlib.Core.List.{List}
-use Prim.Native.Nat.{ℕ, ◌*◌, ◌≤◌}
-use native.Mathlib.Omega.{arith}
+use Prim.Native.Nat.{ℕ, ◌*◌}
 use lib.ListN.{length, take}
+use Rattle.std.specs.Prelude.{Result, Err}
 use Rattle.farm.specs.Limits.{limits}
 use Rattle.farm.specs.declared.refusals.Refusal.TheVariants.{BadTable}
-use Rattle.record.specs.Writing.{lists_of, checked_lists, answered, written_to, buffer_with, buffer_after}
+use Rattle.record.specs.Writing.{checked_lists, answered, written_to, buffer_with, buffer_after}
 use Rattle.record.specs.Answers.{written_in}
 use Rattle.record.specs.Columns.{tables_of}
 use Rattle.record.specs.Good.{good_record}
-use Rattle.record.specs.Tables.{Tables}
-use Rattle.record.specs.declared.answers.Written.{Written}
-use Rattle.record.specs.declared.answers.Written.TheVariants.{Refused as NotWritten}
+use Rattle.farm.specs.declared.refusals.Refusal.{Refusal}
+use Rattle.live_table.proofs.SoundLaws.{used_tables}
 use Rattle.record.proofs.ColumnLaws.{Columns, columns-from-edits}
-use Rattle.record.proofs.GoodLaws.{header-facts, record-facts}
+use Rattle.record.proofs.GoodLaws.{record-facts}
 use Rattle.record.proofs.WritingLaws.{good-lists-accepted}
-use Rattle.questions.specs.Accepted.{Accepted as Accepts}
 use Rattle.live_table.specs.declared.table.Table.{Table}
 use Rattle.live_table.specs.Used.{used_record, table_reading}
 use Rattle.live_table.proofs.UsedLaws.{reading-good, reads-bad}
 use Rattle.live_table.proofs.ListLaws.{cut-full}
-
-module _ (table : Table) where
-  -- What the questions ask of an accepted record's numbers.
-  pub accepted-sizes : good_record limits (used_record table) ≡ true → Accepts (record { seats = table.seats; bound = table.bound; rounds = table.rounds })
-  unfolding used_record
-  accepted-sizes g =
-      let f = header-facts limits _ (record-facts limits (used_record table) g).header in
-      record { seats = f.most; bound = omega arith; rounds = f.rounds }
 
 -- The edits of a good used part, and the lists that they stand in.
 module _ (table : Table) (g : good_record limits (used_record table) ≡ true) where
@@ -44,17 +34,13 @@ module _ (table : Table) (g : good_record limits (used_record table) ≡ true) w
       columns-from-edits (take E table.editors) (take E table.times) (take E table.cells) (take E table.changes)
       (full.times ∙ sym full.seats) (full.cells ∙ sym full.seats) (full.changes ∙ sym full.seats)
 
-  pub few-edits : E ≤ 512
-  unfolding used_record
-  few-edits = (header-facts limits _ (record-facts limits (used_record table) g).header).edits
-
   -- The lists of the used part are accepted as the record that it is.
   pub used-lists : table_reading table
-      ≡ checked_lists limits table.seats table.bound table.rounds (lists_of (take (table.seats * table.rounds) table.losses) (take E table.editors) (take E table.times) (take E table.cells) (take E table.changes))
+      ≡ checked_lists limits table.seats table.bound table.rounds (used_tables table)
   unfolding used_record tables_of
   used-lists =
       let c = columns in
-      let same : tables_of (used_record table) ≡ lists_of (take (table.seats * table.rounds) table.losses) (take E table.editors) (take E table.times) (take E table.cells) (take E table.changes)
+      let same : tables_of (used_record table) ≡ used_tables table
       = λ i. record {
         losses = take (table.seats * table.rounds) table.losses;
         seats = c.seats-same i;
@@ -68,15 +54,12 @@ module _ (table : Table) (g : good_record limits (used_record table) ≡ true) w
 
 module _ (table : Table) where
   pub bad-write : (old : List ℕ) → good_record limits (used_record table) ≡ false
-      → (NotWritten BadTable ≡ written_in (answered limits (table_reading table) (length old))) × (old ≡ buffer_with limits (table_reading table) old)
+      → (Err BadTable ≡ written_in (answered limits (table_reading table) (length old))) × (old ≡ buffer_with limits (table_reading table) old)
   unfolding written_in answered buffer_with
   bad-write old h = rw (reads-bad table h) (refl, refl)
 
-  abbrev its-lists : Tables
-  its-lists = lists_of (take (table.seats * table.rounds) table.losses) (take table.edits table.editors) (take table.edits table.times) (take table.edits table.cells) (take table.edits table.changes)
-
-  pub good-write : good_record limits (used_record table) ≡ true → (old new : List ℕ) (answer : Written)
-      → (answer ≡ written_in (written_to limits table.seats table.bound table.rounds its-lists (length old))) × (new ≡ buffer_after limits table.seats table.bound table.rounds its-lists old)
+  pub good-write : good_record limits (used_record table) ≡ true → (old new : List ℕ) (answer : Result ℕ Refusal)
+      → (answer ≡ written_in (written_to limits table.seats table.bound table.rounds (used_tables table) (length old))) × (new ≡ buffer_after limits table.seats table.bound table.rounds (used_tables table) old)
       → (answer ≡ written_in (answered limits (table_reading table) (length old))) × (new ≡ buffer_with limits (table_reading table) old)
   unfolding written_to buffer_after
   good-write g old new answer e = rw (used-lists table g) e

@@ -7,9 +7,9 @@ use Rattle.record.specs.Good.{good_record}
 use Rattle.record.specs.Record.{Record, good}
 use Rattle.record.specs.Writing.{answered, buffer_with}
 use Rattle.questions.specs.Question.{Lent, view_asked, known_asked, settled_asked, core_asked, marks_asked, count_asked, loser_asked}
-use Rattle.live.specs.declared.answers.Done.{Done}
 use Rattle.live_table.specs.declared.table.Table.{Table}
 use Rattle.live_table.specs.Used.{used_record, table_reading}
+use Rattle.live.specs.Answers.{Done}
 use Rattle.live.specs.Calls.{Call}
 use Rattle.live.specs.Runs.{Run, nothing, told, record_of_all}
 

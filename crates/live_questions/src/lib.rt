@@ -4,4 +4,3 @@
 
 pub mod asks; // asks.rt: questions on a `&` to the table
 mod carrier; // carrier.rt: what a table reads as
-pub mod lent; // lent.rt: questions on the parts of a table, lent one by one
