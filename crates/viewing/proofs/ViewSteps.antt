@@ -1,4 +1,4 @@
--- One turn of the loops that join views and take them forward, each law over plain values.
+-- The table of all views: what stands where in it, how it is filled in, and the views that it gives. Each law over plain values.
 -- Assumes nothing.
 use mathlib.Core.Path.{◌≡◌, refl, sym, ◌∙◌, ap, ap₂}
 use mathlib.Core.Logic.{◌⊎◌, inl, inr, ◌≢◌}
