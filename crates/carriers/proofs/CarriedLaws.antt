@@ -8,7 +8,6 @@ use native.Mathlib.Omega.{arith}
 use lib.IntN.{ℤ}
 use Rattle.std.specs.Prelude.{Result, Ok, Err}
 use Rattle.std.specs.Result.{IsErrAnd}
-use Rattle.std.proofs.lemmas.Result.{err_from_is_err_and}
 use lib.ListN.{length, take, length-take}
 use Rattle.farm.specs.Limits.{limits}
 use Rattle.farm.specs.Sets.{Seats, bit}
@@ -22,6 +21,7 @@ use Rattle.knowledge.specs.Settled as rules
 use Rattle.knowledge.specs.Settled.{Outcome}
 use Rattle.viewing.specs.Counts.{farm_for}
 use Rattle.construction.proofs.Looks.{view-same, known-of-same, outcome-same, losers-same, used-losses}
+use Rattle.record.proofs.RefusalLaws.{handed_up}
 use Rattle.record.specs.declared.header.Header.{Header}
 use Rattle.record.specs.declared.edits.Edit.{Edit}
 use Rattle.record.specs.Taking.{IsBytes}
@@ -205,33 +205,30 @@ module _ {reading : Reading} {x : Refusal} {table who when : List ℕ} (c : Carr
       by (good w) e = absurd cc
       by (bad y) e = let same : y ≡ x = cc in ap bad same
 
-  handed : {A : Type 0} (r : Result A Refusal) → IsErrAnd r (λ y. y ≡ x) → r ≡ Err x
-  handed r e = let up = err_from_is_err_and r e in up.1 ∙ ap Err up.2
-
   module _ (p : Seat) (ℓ : Time) where
     pub seen-refused : (r : Result Seen Refusal) → IsErrAnd r (λ y. y ≡ x) → r ≡ seen_asked reading p ℓ
     unfolding on_record
-    seen-refused r e = rw the-refusal (handed r e)
+    seen-refused r e = rw the-refusal (handed_up r x e)
 
     pub agreed-refused : (r : Result Agreed Refusal) → IsErrAnd r (λ y. y ≡ x) → r ≡ agreed_asked reading p ℓ
     unfolding on_record
-    agreed-refused r e = rw the-refusal (handed r e)
+    agreed-refused r e = rw the-refusal (handed_up r x e)
 
     pub view-refused : (old : List ℤ) (r : Result (Unit {0}) Refusal) → IsErrAnd r (λ y. y ≡ x) → Fills (λ room. view_asked room reading p ℓ) old r old
     unfolding on_record
-    view-refused old r e = rw (the-refusal, handed r e) (record { answered = refl; left = refl })
+    view-refused old r e = rw (the-refusal, handed_up r x e) (record { answered = refl; left = refl })
 
     pub core-refused : (old : List ℤ) (r : Result (Unit {0}) Refusal) → IsErrAnd r (λ y. y ≡ x) → Fills (λ room. core_asked room reading p ℓ) old r old
     unfolding on_record
-    core-refused old r e = rw (the-refusal, handed r e) (record { answered = refl; left = refl })
+    core-refused old r e = rw (the-refusal, handed_up r x e) (record { answered = refl; left = refl })
 
     pub marks-refused : (old : List ℕ) (r : Result (Unit {0}) Refusal) → IsErrAnd r (λ y. y ≡ x) → Fills (λ room. marks_asked room reading p ℓ) old r old
     unfolding on_record
-    marks-refused old r e = rw (the-refusal, handed r e) (record { answered = refl; left = refl })
+    marks-refused old r e = rw (the-refusal, handed_up r x e) (record { answered = refl; left = refl })
 
   pub standing-refused : (p : Seat) (r : Result Standing Refusal) → IsErrAnd r (λ y. y ≡ x) → r ≡ standing_answer (loser_asked reading p)
   unfolding on_record
-  standing-refused p r e = rw the-refusal (handed r e)
+  standing-refused p r e = rw the-refusal (handed_up r x e)
 
 -- ════ The carriers ════
 
