@@ -10,8 +10,7 @@ use Rattle.record.specs.Writing.{Verdict, accepted, faulty}
 use Rattle.live_table.specs.declared.table.Table.{Table}
 use Rattle.live_table.specs.Used.{used_record}
 use Rattle.live_table.proofs.UsedLaws.{reading-good}
-use Rattle.live.specs.declared.answers.Done.{Done}
-use Rattle.live.specs.Answers.{done_of, Ends}
+use Rattle.live.specs.Answers.{Done, done_of, Ends}
 use Rattle.live.specs.Calls.{Call, opening, round, edit, opened_record, with_round, with_edit, present_edit, tests_of, added, kept_or, answer_to, table_after}
 use Rattle.live.specs.Runs.{Run, stop, step, Told, told, recorded, recorded_if, record_of_all}
 use Rattle.live.proofs.GoodSteps.{AllPass, all_pass, opened-good, round-good, edit-good}

@@ -1,5 +1,6 @@
 -- The tests of a good record say what document 01's words say.
 -- Assumes nothing.
+use Rattle.std.specs.Prelude.{Option, Some, None}
 use mathlib.Core.Path.{◌≡◌, refl}
 use mathlib.Core.Logic.{◌↔◌}
 use mathlib.Core.Bool.{true}
@@ -14,8 +15,6 @@ use Rattle.farm.specs.Sets.{Seats}
 use Rattle.farm.proofs.Cases.{and_intro, and-elim}
 use Rattle.record.specs.declared.header.Header.{Header}
 use Rattle.record.specs.declared.edits.Edit.{Edit}
-use Rattle.record.specs.declared.edits.Before.{Before}
-use Rattle.record.specs.declared.edits.Before.TheVariants.{Nothing, This}
 use Rattle.record.specs.Edits.{follows}
 use Rattle.record.specs.Good.{good_header, good_sets, good_rounds, good_edit, good_edits, good_record}
 use Rattle.record.specs.Losses.{first_seat}
@@ -44,18 +43,18 @@ edit-fits n R e some = (
   λ f. edit-from-facts limits n R e (record { seat = omega arith; time = f.time; cell = f.cell; change = f.change }),
 )
 
-pub follows-fits : (before : Before) (e : Edit) → (follows before e ≡ true) ↔ Follows before e
+pub follows-fits : (before : Option Edit) (e : Edit) → (follows before e ≡ true) ↔ Follows before e
 unfolding follows
-follows-fits Nothing e = (λ g. tt, λ f. refl)
-follows-fits (This last) e = edits-rise-strictly.0 last e
+follows-fits None e = (λ g. tt, λ f. refl)
+follows-fits (Some last) e = edits-rise-strictly.0 last e
 
-pub edits-fit : (n R : ℕ) (before : Before) (edits : List Edit) → 0 < n → (good_edits limits n R before edits ≡ true) ↔ EditsFit n R before edits
+pub edits-fit : (n R : ℕ) (before : Option Edit) (edits : List Edit) → 0 < n → (good_edits limits n R before edits ≡ true) ↔ EditsFit n R before edits
 unfolding good_edits
 edits-fit n R before [] some = (λ g. tt, λ f. refl)
 edits-fit n R before (e ∷ edits) some =
     let one = edit-fits n R e some in
     let order = follows-fits before e in
-    let rest = edits-fit n R (This e) edits some in (
+    let rest = edits-fit n R (Some e) edits some in (
       λ g. let x = and-elim _ _ g in let y = and-elim _ _ x.0 in (one.0 y.0, order.0 y.1, rest.0 x.1),
       λ f. and_intro _ _ (and_intro _ _ (one.1 f.0) (order.1 f.1)) (rest.1 f.2),
     )
@@ -70,7 +69,7 @@ record-good r = (
         loss_count = f.loss_count;
         losses = (losses-fit _ _ r.losses f.loss_count).0 f.losses;
         edit_count = f.edit_count;
-        edits = (edits-fit r.header.seats r.header.rounds Nothing r.edits (omega (arith, n.fewest))).0 f.edits;
+        edits = (edits-fit r.header.seats r.header.rounds None r.edits (omega (arith, n.fewest))).0 f.edits;
       },
   λ f.
       record-from-facts limits r (record {
@@ -78,6 +77,6 @@ record-good r = (
         loss_count = f.loss_count;
         losses = (losses-fit _ _ r.losses f.loss_count).1 f.losses;
         edit_count = f.edit_count;
-        edits = (edits-fit r.header.seats r.header.rounds Nothing r.edits (omega (arith, f.numbers.fewest))).1 f.edits;
+        edits = (edits-fit r.header.seats r.header.rounds None r.edits (omega (arith, f.numbers.fewest))).1 f.edits;
       }),
 )

@@ -1,5 +1,6 @@
 -- Records as bytes and as lists, read into tables and written: each refusal by its number, exactly where its words hold.
 -- Assumes nothing.
+use Rattle.std.specs.Prelude.{Option, Some, None}
 use mathlib.Core.Path.{◌≡◌, refl, sym, ◌∙◌, ap, subst}
 use mathlib.Core.Logic.{◌↔◌, ◌≢◌, inl, inr}
 use mathlib.Core.Bool.{Bool, true, false, cond, true≢false}
@@ -16,8 +17,6 @@ use Rattle.farm.specs.declared.refusals.Refusal.TheVariants.{OutOfRange, BadLoss
 use Rattle.farm.proofs.Cases.{and_intro, and-elim}
 use Rattle.knowledge.specs.Farm.{seat}
 use Rattle.record.specs.declared.edits.Edit.{Edit}
-use Rattle.record.specs.declared.edits.Before.{Before}
-use Rattle.record.specs.declared.edits.Before.TheVariants.{Nothing, This}
 use Rattle.record.specs.Document.{reading_of, bytes_of}
 use Rattle.record.specs.Answers.{checked_of, written_in}
 use Rattle.record.specs.Faults.{NumberFault, ends_early, too_long, not_shortest, Spot, at_seats, at_bound, at_rounds, at_edits, at_loss_set, at_seat, at_time, at_cell, at_change, refusal_at, Fault, bad_number, bad_value, bad_order, bytes_left}
@@ -27,7 +26,7 @@ use Rattle.record.specs.Taking.{IsBytes}
 use Rattle.record.specs.Writing.{Verdict, accepted, faulty, judged, judged_edits, judged_lists, checked_lists, edits_in, header_from, record_from, fitting, Written, count, unwritten, needed, needed_by, answered, written_to, buffer_after, buffer_with}
 use Rattle.record.proofs.Promises.{document-numbers-fit, reads-exactly-good-records, refused-exactly-for-its-fault}
 use Rattle.record.proofs.WritingLaws.{fitting-elim, fitting-intro, refused-leaves}
-use Rattle.conditions.specs.Order.{◌unless◌, GiveThen, Give, read_number, written_number, checked_number}
+use Rattle.conditions.specs.Order.{◌unless◌, GiveThen, Give, read_number, answer_number}
 use Rattle.conditions.specs.Good.{EditFits, Follows}
 use Rattle.conditions.specs.Refusals.{BytesGive, none, one, two, three, four, five, six, BytesRefusedByNumber, LengthsFit, edit_tests, list_tests, ListsRefusedInOrder, TablesLong, ReadingRefusedInOrder, room7, WritingRefusedInOrder, LengthRefusedInOrder}
 use Rattle.conditions.proofs.OrderLaws.{verdict-test}
@@ -89,14 +88,14 @@ lengths-fit n R lists = (
 
 -- Whatever gives a verdict its number, what comes after the lists stands where they are good.
 module _ (num : Verdict → ℕ) (numbered : (f : Refusal) → num (faulty f) ≡ number_of f) (later : ℕ → Type 0) (end : later (num accepted)) where
-  edits-in-order : (n R : ℕ) (before : Before) (edits : List Edit) → 0 < n
+  edits-in-order : (n R : ℕ) (before : Option Edit) (edits : List Edit) → 0 < n
       → GiveThen (edit_tests n R before edits) later (num (judged_edits limits n R before edits))
   unfolding judged_edits GiveThen
   edits-in-order n R before [] some = end
   edits-in-order n R before (e ∷ edits) some =
-      verdict-test num numbered (EditFits n R e) (5 unless Follows before e ∷ edit_tests n R (This e) edits) later _ OutOfRange _ (edit-fits n R e some) (λ f.
-      verdict-test num numbered (Follows before e) (edit_tests n R (This e) edits) later _ BadOrder (judged_edits limits n R (This e) edits) (follows-fits before e) (λ g.
-      edits-in-order n R (This e) edits some))
+      verdict-test num numbered (EditFits n R e) (5 unless Follows before e ∷ edit_tests n R (Some e) edits) later _ OutOfRange _ (edit-fits n R e some) (λ f.
+      verdict-test num numbered (Follows before e) (edit_tests n R (Some e) edits) later _ BadOrder (judged_edits limits n R (Some e) edits) (follows-fits before e) (λ g.
+      edits-in-order n R (Some e) edits some))
 
   judged-in-order : (n t R : ℕ) (lists : Tables) → GiveThen (list_tests n t R lists) later (num (judged_lists limits n t R lists))
   unfolding judged_lists
@@ -104,7 +103,7 @@ module _ (num : Verdict → ℕ) (numbered : (f : Refusal) → num (faulty f) �
       verdict-test num numbered _ _ later _ OutOfRange _ (numbers_fit (header_from n t R lists)) (λ numbers.
       verdict-test num numbered _ _ later _ BadLengths _ (lengths-fit n R lists) (λ lengths.
       verdict-test num numbered _ _ later _ BadLossSet _ (losses-fit n R lists.losses lengths.losses) (λ losses.
-      edits-in-order n R Nothing (edits_in lists) (omega (arith, numbers.fewest)))))
+      edits-in-order n R None (edits_in lists) (omega (arith, numbers.fewest)))))
 
 pub lists-refused-in-order : ListsRefusedInOrder
 unfolding checked_lists judged read_number
@@ -127,8 +126,8 @@ tables-long t = (
       (and_intro _ _ (le-leb 512 _ f.seats) (and_intro _ _ (le-leb 512 _ f.times) (and_intro _ _ (le-leb 512 _ f.cells) (le-leb 512 _ f.changes)))),
 )
 
-checked-number : (x : Reading) → checked_number (checked_of x) ≡ read_number x
-unfolding checked_number checked_of read_number
+checked-number : (x : Reading) → answer_number (checked_of x) ≡ read_number x
+unfolding answer_number checked_of read_number
 checked-number (good r) = refl
 checked-number (bad f) = refl
 
@@ -147,38 +146,38 @@ tables-stay (bad f) before after left some =
 pub reading-refused-in-order : ReadingRefusedInOrder
 unfolding read_into
 reading-refused-in-order bytes before answer after all outcome =
-    let number = ap checked_number outcome.answered ∙ checked-number (read_into limits before bytes) in (
+    let number = ap answer_number outcome.answered ∙ checked-number (read_into limits before bytes) in (
       rw number (read-test bytes (TablesLong before) (roomy limits before) (tables-long before) (gives bytes all _ refl)),
       λ some. tables-stay (read_into limits before bytes) before after outcome.left (λ e. some (number ∙ e)),
     )
 
 -- ════ Writing ════
 
-pub written-test : (room : ℕ) (r : Record) → Give (room7 r room ∷ []) (written_number (written_in (answered limits (good r) room)))
-unfolding GiveThen answered written_in written_number
+pub written-test : (room : ℕ) (r : Record) → Give (room7 r room ∷ []) (answer_number (written_in (answered limits (good r) room)))
+unfolding GiveThen answered written_in answer_number
 written-test room r = by (leb (length (bytes_of r)) room) refl
   where
     by : (b : Bool) → leb (length (bytes_of r)) room ≡ b
-        → Give (room7 r room ∷ []) (written_number (written_in (cond b (count (length (bytes_of r))) (unwritten NoRoom))))
+        → Give (room7 r room ∷ []) (answer_number (written_in (cond b (count (length (bytes_of r))) (unwritten NoRoom))))
     by true e = inl (leb-true _ _ e, refl)
     by false e = inr (λ w. true≢false (sym (le-leb _ _ w) ∙ e), refl)
 
-pub buffer-stays : (x : Reading) (old : List ℕ) (w : Written) → answered limits x (length old) ≡ w → written_number (written_in w) ≢ 0
+pub buffer-stays : (x : Reading) (old : List ℕ) (w : Written) → answered limits x (length old) ≡ w → answer_number (written_in w) ≢ 0
     → buffer_with limits x old ≡ old
-unfolding written_in written_number
+unfolding written_in answer_number
 buffer-stays x old (count k) e some = absurd (some refl)
 buffer-stays x old (unwritten f) e some = refused-leaves limits x old f e
 
 pub writing-refused-in-order : WritingRefusedInOrder
-unfolding written_to buffer_after checked_lists judged answered written_in written_number
+unfolding written_to buffer_after checked_lists judged answered written_in answer_number
 writing-refused-in-order n t R lists old answer new said left = (
   rw said
-      (judged-in-order (λ v. written_number (written_in (answered limits (judged (record_from n t R lists) v) (length old)))) (λ f. refl) _
+      (judged-in-order (λ v. answer_number (written_in (answered limits (judged (record_from n t R lists) v) (length old)))) (λ f. refl) _
       (written-test (length old) (record_from n t R lists)) n t R lists),
-  λ some. left ∙ buffer-stays (checked_lists limits n t R lists) old _ refl (λ e. some (ap written_number said ∙ e)),
+  λ some. left ∙ buffer-stays (checked_lists limits n t R lists) old _ refl (λ e. some (ap answer_number said ∙ e)),
 )
 
 pub length-refused-in-order : LengthRefusedInOrder
-unfolding needed_by checked_lists judged needed written_in written_number
+unfolding needed_by checked_lists judged needed written_in answer_number
 length-refused-in-order n t R lists =
-    judged-in-order (λ v. written_number (written_in (needed limits (judged (record_from n t R lists) v)))) (λ f. refl) (λ j. j ≡ 0) refl n t R lists
+    judged-in-order (λ v. answer_number (written_in (needed limits (judged (record_from n t R lists) v)))) (λ f. refl) (λ j. j ≡ 0) refl n t R lists

@@ -1,5 +1,6 @@
 -- The live table and its calls: each refusal by its number, in its order. And what is accepted is good, whatever carries it.
 -- Assumes nothing.
+use Rattle.std.specs.Prelude.{None}
 use mathlib.Core.Path.{◌≡◌, refl, sym, ◌∙◌, ap}
 use mathlib.Core.Logic.{◌↔◌, ◌≢◌, inl, inr}
 use mathlib.Core.Bool.{Bool, true, false, cond, true≢false}
@@ -12,7 +13,6 @@ use Rattle.farm.specs.Limits.{limits}
 use Rattle.farm.specs.Refusals.{number_of}
 use Rattle.farm.specs.declared.refusals.Refusal.{Refusal}
 use Rattle.farm.specs.declared.refusals.Refusal.TheVariants.{OutOfRange, BadLossSet, BadOrder, BadLengths, RoundsFull, EditsFull, BadTable}
-use Rattle.record.specs.declared.edits.Before.TheVariants.{Nothing}
 use Rattle.record.specs.Answers.{written_in}
 use Rattle.record.specs.Faults.{last_of}
 use Rattle.record.specs.Good.{good_record}
@@ -25,7 +25,7 @@ use Rattle.live_table.specs.Used.{used_record, table_reading}
 use Rattle.live.specs.Answers.{done_of}
 use Rattle.live.specs.Calls.{Call, opening, round, edit, present_edit, empty_header, tests_of, first_failing, kept_or, added, answer_to, table_after}
 use Rattle.live.proofs.Promises.{passes}
-use Rattle.conditions.specs.Order.{Test, ◌unless◌, GiveThen, Give, read_number, written_number, done_number}
+use Rattle.conditions.specs.Order.{Test, ◌unless◌, GiveThen, Give, read_number, answer_number}
 use Rattle.conditions.specs.Good.{GoodRecord}
 use Rattle.conditions.specs.Refusals.{room7, any19, TablesRefusedByNumber, WritingOutRefusedInOrder, call_tests, CallsRefusedInOrder, EachAcceptedIsGood}
 use Rattle.conditions.proofs.OrderLaws.{less, verdict-test}
@@ -44,28 +44,28 @@ tables-refused-by-number table = by (good_record limits (used_record table)) (re
     by false same = inr (λ w. true≢false (sym (same.1 w)), refl)
 
 pub writing-out-refused-in-order : WritingOutRefusedInOrder
-unfolding GiveThen table_reading answered written_in written_number
+unfolding GiveThen table_reading answered written_in answer_number
 writing-out-refused-in-order table old answer new said left = (
   rw said (by (good_record limits (used_record table)) (record-good (used_record table))),
-  λ some. left ∙ buffer-stays (table_reading table) old _ refl (λ e. some (ap written_number said ∙ e)),
+  λ some. left ∙ buffer-stays (table_reading table) old _ refl (λ e. some (ap answer_number said ∙ e)),
 )
   where
     by : (b : Bool) → (b ≡ true) ↔ GoodRecord (used_record table)
         → Give (any19 table ∷ room7 (used_record table) (length old) ∷ [])
-        (written_number (written_in (answered limits (cond b (good (used_record table)) (bad BadTable)) (length old))))
+        (answer_number (written_in (answered limits (cond b (good (used_record table)) (bad BadTable)) (length old))))
     by true same = inl (same.0 refl, written-test (length old) (used_record table))
     by false same = inr (λ w. true≢false (sym (same.1 w)), refl)
 
 call-number : Verdict → ℕ
-call-number v = done_number (done_of v)
+call-number v = answer_number (done_of v)
 
 call-test : (words : Type 0) (tests : List Test) (b : Bool) (f : Refusal) (v : Verdict) → (b ≡ true) ↔ words → (words → Give tests (call-number v))
     → Give (◌unless◌ (number_of f) words ∷ tests) (call-number ((unless) b f v))
-unfolding call-number done_of done_number
+unfolding call-number done_of answer_number
 call-test words tests b f v = verdict-test call-number (λ refusal. refl) words tests _ b f v
 
 all-passed : Give [] (call-number accepted)
-unfolding GiveThen call-number done_of done_number
+unfolding GiveThen call-number done_of answer_number
 all-passed = refl
 
 answers-in-order : (call : Call) (table : Table) → Give (call_tests call table) (call-number (answer_to call table))
@@ -80,16 +80,16 @@ answers-in-order (edit p cell change) table =
     call-test _ _ _ BadTable _ (record-good (used_record table)) (λ sound.
     call-test _ _ _ OutOfRange _ (edit-fits table.seats table.rounds (present_edit p cell change (used_record table)) (omega (arith, sound.numbers.fewest))) (λ f.
     call-test _ _ _ EditsFull _ (less table.edits 512) (λ early.
-    call-test _ [] _ BadOrder accepted (follows-fits (last_of Nothing (used_record table).edits) (present_edit p cell change (used_record table))) (λ g. all-passed))))
+    call-test _ [] _ BadOrder accepted (follows-fits (last_of None (used_record table).edits) (present_edit p cell change (used_record table))) (λ g. all-passed))))
 
 pub calls-refused-in-order : CallsRefusedInOrder
-unfolding call-number table_after kept_or done_of done_number
+unfolding call-number table_after kept_or done_of answer_number
 calls-refused-in-order call before answer after (said, left) = (
   rw said (answers-in-order call before),
   λ some. left ∙ by (answer_to call before) (λ e. some (rw said e)),
 )
   where
-    by : (v : Verdict) → done_number (done_of v) ≢ 0 → kept_or v before (added call before) ≡ before
+    by : (v : Verdict) → answer_number (done_of v) ≢ 0 → kept_or v before (added call before) ≡ before
     by accepted given = absurd (given refl)
     by (faulty f) given = refl
 

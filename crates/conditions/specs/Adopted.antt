@@ -4,7 +4,7 @@ use Rattle.std.specs.Prelude.{◌≡◌, List}
 use Rattle.record.specs.Record.{Record, good}
 use Rattle.live_table.specs.declared.table.Table.{Table}
 use Rattle.live_table.specs.Used.{used_record, table_reading}
-use Rattle.live.specs.declared.answers.Done.{Done}
+use Rattle.live.specs.Answers.{Done}
 use Rattle.live.specs.Calls.{Call}
 use Rattle.live.specs.Runs.{Run, told, record_of_all}
 use Rattle.live_questions.specs.Promises.{AnswersAs}

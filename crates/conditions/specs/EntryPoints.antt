@@ -1,6 +1,6 @@
 -- The entry points, each by its contract as it is generated from the source: whatever the contract allows is what the conditions speak
 -- of. So a contract that says less breaks this statement.
-use Rattle.std.specs.Prelude.{◌≡◌, ◌≢◌, true, false, List, ◌++◌, ℕ, ℤ, pos, length, drop}
+use Rattle.std.specs.Prelude.{◌≡◌, ◌≢◌, true, false, List, ◌++◌, ℕ, ℤ, length, drop, Result, Ok, Err, IsOkAnd}
 use seplogic.Ra.Ura.{Ura}
 use base.Logic.{SProp, ent, emp}
 use prog.Memory.{Memory}
@@ -14,22 +14,23 @@ use Rattle.farm.specs.Limits.{limits}
 use Rattle.farm.specs.Sets.{Seats}
 use Rattle.farm.specs.declared.places.Seat.{Seat}
 use Rattle.farm.specs.declared.places.Time.{Time}
+use Rattle.farm.specs.declared.refusals.Refusal.{Refusal}
 use Rattle.farm.proofs.Complete.{Contract}
 use Rattle.knowledge.specs.Settled as rules
 use Rattle.record.specs.Answers.{checked_of, judged_in, written_in}
 use Rattle.record.specs.Document.{reading_of}
+use Rattle.record.specs.Lent.{tables_in, verdict_on}
 use Rattle.record.specs.Record.{Reading}
 use Rattle.record.specs.Tables.{tables}
-use Rattle.record.specs.Writing.{lists_of, judged_lists, needed_by, written_to, buffer_after, answered, buffer_with}
+use Rattle.record.specs.Writing.{needed_by, written_to, buffer_after, answered, buffer_with}
 use Rattle.reading.specs.Outcome.{ReadOutcome}
-use Rattle.carriers.specs.Loading.{lists_read}
-use Rattle.questions.specs.declared.answers.Given.{Given}
+use Rattle.carriers.specs.Loading.{reading_in}
 use Rattle.questions.specs.declared.answers.Seen.{Seen}
 use Rattle.questions.specs.declared.answers.Agreed.{Agreed}
 use Rattle.questions.specs.declared.answers.Standing.{Standing}
 use Rattle.questions.specs.declared.answers.Standing.TheVariants.{Loser, Clean}
 use Rattle.questions.specs.Answers.{no_times, summary_of}
-use Rattle.questions.specs.Question.{Asked, found, Lent, by_value, buffer, view_asked, known_asked, settled_asked, core_asked, marks_asked, count_asked, loser_asked}
+use Rattle.questions.specs.Question.{Asked, found, refused, Lent, by_value, buffer, view_asked, known_asked, settled_asked, core_asked, marks_asked, count_asked, loser_asked}
 use Rattle.live_table.specs.Used.{table_reading}
 use Rattle.live.specs.Answers.{Ends}
 use Rattle.live.specs.Calls.{opening, round, edit}
@@ -60,7 +61,7 @@ use Rattle.live_questions.specs.contracts.asks.write_out as write-out
 use Rattle.live_calls.specs.contracts.calls.open as open'
 use Rattle.live_calls.specs.contracts.calls.add_round as add-round
 use Rattle.live_calls.specs.contracts.calls.add_edit as add-edit
-use Rattle.conditions.specs.Order.{asked_number, given_number, standing_number}
+use Rattle.conditions.specs.Order.{asked_number, answer_number}
 
 -- At every model and from any arguments: the contract asks nothing, and whatever it allows as result and as parameters at exit has
 -- the property.
@@ -74,56 +75,52 @@ Ensures T contract property =
 
 -- ════ What the code's answers to questions say ════
 
--- By value: the number and what is found, or the number and nothing else. A view or a core stands in front of as many −1 as there can
--- be seats.
-abbrev pub Times : Asked (List ℤ) → List ℤ → Type 0
-Times asked latest = (numbers : List ℤ) → asked ≡ found numbers → latest ≡ numbers ++ drop (length numbers) no_times
+-- By value: the number; what is found, each part as its own question says; and beside a refusal nothing, since the answer is that refusal
+-- alone. A view or a core stands in front of as many −1 as there can be seats.
+abbrev pub in_front : List ℤ → List ℤ
+in_front numbers = numbers ++ drop (length numbers) no_times
 
-pub record SaysSeen (reading : Reading) (p : Seat) (ℓ : Time) (answer : Seen) : Type 0 where
-  pub number : given_number answer.given ≡ asked_number (view_asked by_value reading p ℓ)
-  pub view : Times (view_asked by_value reading p ℓ) answer.latest
-  pub known : (set : Seats) → known_asked reading p ℓ ≡ found set → answer.known ≡ set
-  pub nothing : given_number answer.given ≢ 0 → (answer.latest ≡ no_times) × (answer.known ≡ 0)
+pub record SaysSeen (reading : Reading) (p : Seat) (ℓ : Time) (answer : Result Seen Refusal) : Type 0 where
+  pub number : answer_number answer ≡ asked_number (view_asked by_value reading p ℓ)
+  pub view : (numbers : List ℤ) → view_asked by_value reading p ℓ ≡ found numbers → IsOkAnd answer (λ seen. seen.latest ≡ in_front numbers)
+  pub known : (set : Seats) → known_asked reading p ℓ ≡ found set → IsOkAnd answer (λ seen. seen.known ≡ set)
+  pub nothing : (f : Refusal) → view_asked by_value reading p ℓ ≡ refused f → answer ≡ Err f
 
-pub record SaysAgreed (reading : Reading) (p : Seat) (ℓ : Time) (answer : Agreed) : Type 0 where
-  pub number : given_number answer.given ≡ asked_number (settled_asked reading p ℓ)
-  pub settled : (s : rules.Settled) → settled_asked reading p ℓ ≡ found s → answer.summary ≡ summary_of s
-  pub core : Times (core_asked by_value reading p ℓ) answer.latest
-  pub count : (k : ℕ) → count_asked reading p ℓ ≡ found k → answer.count ≡ k
-  pub nothing : given_number answer.given ≢ 0
-      → (answer.summary ≡ record { critical = pos 0; kept = 0; steps = 0 }) × (answer.latest ≡ no_times) × (answer.count ≡ 0)
+pub record SaysAgreed (reading : Reading) (p : Seat) (ℓ : Time) (answer : Result Agreed Refusal) : Type 0 where
+  pub number : answer_number answer ≡ asked_number (settled_asked reading p ℓ)
+  pub settled : (s : rules.Settled) → settled_asked reading p ℓ ≡ found s → IsOkAnd answer (λ agreed. agreed.summary ≡ summary_of s)
+  pub core : (numbers : List ℤ) → core_asked by_value reading p ℓ ≡ found numbers → IsOkAnd answer (λ agreed. agreed.latest ≡ in_front numbers)
+  pub count : (k : ℕ) → count_asked reading p ℓ ≡ found k → IsOkAnd answer (λ agreed. agreed.count ≡ k)
+  pub nothing : (f : Refusal) → settled_asked reading p ℓ ≡ refused f → answer ≡ Err f
 
-pub record SaysStanding (reading : Reading) (p : Seat) (answer : Standing) : Type 0 where
-  pub number : standing_number answer ≡ asked_number (loser_asked reading p)
-  pub loser : loser_asked reading p ≡ found true → answer ≡ Loser
-  pub clean : loser_asked reading p ≡ found false → answer ≡ Clean
+pub record SaysStanding (reading : Reading) (p : Seat) (answer : Result Standing Refusal) : Type 0 where
+  pub number : answer_number answer ≡ asked_number (loser_asked reading p)
+  pub loser : loser_asked reading p ≡ found true → answer ≡ Ok Loser
+  pub clean : loser_asked reading p ≡ found false → answer ≡ Ok Clean
+  pub nothing : (f : Refusal) → loser_asked reading p ≡ refused f → answer ≡ Err f
 
 -- In a lent buffer: the number; what is found in front, and the later entries as they were; after a refusal every entry as it was.
-pub record Fills {A : Type 0} (ask : Lent → Asked (List A)) (old : List A) (answer : Given) (new : List A) : Type 0 where
-  pub number : given_number answer ≡ asked_number (ask (buffer (length old)))
+pub record Fills {A : Type 0} (ask : Lent → Asked (List A)) (old : List A) (answer : Result (Unit {0}) Refusal) (new : List A) : Type 0 where
+  pub number : answer_number answer ≡ asked_number (ask (buffer (length old)))
   pub filled : (entries : List A) → ask (buffer (length old)) ≡ found entries → new ≡ entries ++ drop (length entries) old
-  pub stays : given_number answer ≢ 0 → new ≡ old
+  pub stays : answer_number answer ≢ 0 → new ≡ old
 
 -- ════ The functions, by the names of their parameters; a prime marks a parameter at exit ════
 
 pub record EntryPoints : Type 2 where
   -- Records looked through, into tables and out of lists.
   pub check : Ensures check.ended (λ M 𝓤. check.clauses {M = M} {𝓤 = 𝓤}) (λ κs (bytes, none) r end. r ≡ checked_of (reading_of bytes.now))
-  pub judge : Ensures judge.ended (λ M 𝓤. judge.clauses {M = M} {𝓤 = 𝓤})
-      (λ κs (n, (t, (R, (losses, (seats, (times, (cells, (changes, none)))))))) r end.
-      r ≡ judged_in (judged_lists limits n t R (lists_of losses.now seats.now times.now cells.now changes.now)))
+  pub judge : Ensures judge.ended (λ M 𝓤. judge.clauses {M = M} {𝓤 = 𝓤}) (λ κs (lists, none) r end. r ≡ judged_in (verdict_on lists))
   pub read : Ensures read.ended (λ M 𝓤. read.clauses {M = M} {𝓤 = 𝓤})
       (λ κs (bytes, (losses, (seats, (times, (cells, (changes, none)))))) r (bytes', (losses', (seats', (times', (cells', (changes', none')))))).
       ReadOutcome bytes.now (tables losses.now seats.now times.now cells.now changes.now) r
       (tables losses'.now seats'.now times'.now cells'.now changes'.now))
   pub write : Ensures write.ended (λ M 𝓤. write.clauses {M = M} {𝓤 = 𝓤})
-      (λ κs (n, (t, (R, (losses, (seats, (times, (cells, (changes, (out, none))))))))) r
-      (n', (t', (R', (losses', (seats', (times', (cells', (changes', (out', none'))))))))).
-      (r ≡ written_in (written_to limits n t R (lists_of losses.now seats.now times.now cells.now changes.now) (length out.now)))
-      × (out'.now ≡ buffer_after limits n t R (lists_of losses.now seats.now times.now cells.now changes.now) out.now))
+      (λ κs (lists, (out, none)) r (lists', (out', none')).
+      (r ≡ written_in (written_to limits lists.seats lists.bound lists.rounds (tables_in lists) (length out.now)))
+      × (out'.now ≡ buffer_after limits lists.seats lists.bound lists.rounds (tables_in lists) out.now))
   pub needed : Ensures needed.ended (λ M 𝓤. needed.clauses {M = M} {𝓤 = 𝓤})
-      (λ κs (n, (t, (R, (losses, (seats, (times, (cells, (changes, none)))))))) r end.
-      r ≡ written_in (needed_by limits n t R (lists_of losses.now seats.now times.now cells.now changes.now)))
+      (λ κs (lists, none) r end. r ≡ written_in (needed_by limits lists.seats lists.bound lists.rounds (tables_in lists)))
   -- Questions on a record as bytes.
   pub bytes-seen : Ensures byte-seen.ended (λ M 𝓤. byte-seen.clauses {M = M} {𝓤 = 𝓤})
       (λ κs (bytes, (p, (ℓ, none))) r end. SaysSeen (reading_of bytes.now) p ℓ r)
@@ -142,26 +139,20 @@ pub record EntryPoints : Type 2 where
       Fills (λ lent. marks_asked lent (reading_of bytes.now) p ℓ) out.now r out'.now)
   -- Questions on a record as lists.
   pub lists-seen : Ensures list-seen.ended (λ M 𝓤. list-seen.clauses {M = M} {𝓤 = 𝓤})
-      (λ κs (n, (t, (R, (losses, (seats, (times, (cells, (changes, (p, (ℓ, none)))))))))) r end.
-      SaysSeen (lists_read n t R losses.now seats.now times.now cells.now changes.now) p ℓ r)
+      (λ κs (lists, (p, (ℓ, none))) r end. SaysSeen (reading_in lists) p ℓ r)
   pub lists-agreed : Ensures list-agreed.ended (λ M 𝓤. list-agreed.clauses {M = M} {𝓤 = 𝓤})
-      (λ κs (n, (t, (R, (losses, (seats, (times, (cells, (changes, (p, (ℓ, none)))))))))) r end.
-      SaysAgreed (lists_read n t R losses.now seats.now times.now cells.now changes.now) p ℓ r)
+      (λ κs (lists, (p, (ℓ, none))) r end. SaysAgreed (reading_in lists) p ℓ r)
   pub lists-standing : Ensures list-standing.ended (λ M 𝓤. list-standing.clauses {M = M} {𝓤 = 𝓤})
-      (λ κs (n, (t, (R, (losses, (seats, (times, (cells, (changes, (p, none))))))))) r end.
-      SaysStanding (lists_read n t R losses.now seats.now times.now cells.now changes.now) p r)
+      (λ κs (lists, (p, none)) r end. SaysStanding (reading_in lists) p r)
   pub lists-view : Ensures list-view.ended (λ M 𝓤. list-view.clauses {M = M} {𝓤 = 𝓤})
-      (λ κs (n, (t, (R, (losses, (seats, (times, (cells, (changes, (p, (ℓ, (out, none))))))))))) r
-      (n', (t', (R', (losses', (seats', (times', (cells', (changes', (p', (ℓ', (out', none'))))))))))).
-      Fills (λ lent. view_asked lent (lists_read n t R losses.now seats.now times.now cells.now changes.now) p ℓ) out.now r out'.now)
+      (λ κs (lists, (p, (ℓ, (out, none)))) r (lists', (p', (ℓ', (out', none')))).
+      Fills (λ lent. view_asked lent (reading_in lists) p ℓ) out.now r out'.now)
   pub lists-core : Ensures list-core.ended (λ M 𝓤. list-core.clauses {M = M} {𝓤 = 𝓤})
-      (λ κs (n, (t, (R, (losses, (seats, (times, (cells, (changes, (p, (ℓ, (out, none))))))))))) r
-      (n', (t', (R', (losses', (seats', (times', (cells', (changes', (p', (ℓ', (out', none'))))))))))).
-      Fills (λ lent. core_asked lent (lists_read n t R losses.now seats.now times.now cells.now changes.now) p ℓ) out.now r out'.now)
+      (λ κs (lists, (p, (ℓ, (out, none)))) r (lists', (p', (ℓ', (out', none')))).
+      Fills (λ lent. core_asked lent (reading_in lists) p ℓ) out.now r out'.now)
   pub lists-marks : Ensures list-marks.ended (λ M 𝓤. list-marks.clauses {M = M} {𝓤 = 𝓤})
-      (λ κs (n, (t, (R, (losses, (seats, (times, (cells, (changes, (p, (ℓ, (out, none))))))))))) r
-      (n', (t', (R', (losses', (seats', (times', (cells', (changes', (p', (ℓ', (out', none'))))))))))).
-      Fills (λ lent. marks_asked lent (lists_read n t R losses.now seats.now times.now cells.now changes.now) p ℓ) out.now r out'.now)
+      (λ κs (lists, (p, (ℓ, (out, none)))) r (lists', (p', (ℓ', (out', none')))).
+      Fills (λ lent. marks_asked lent (reading_in lists) p ℓ) out.now r out'.now)
   -- Questions on the live table, and the record so far as bytes.
   pub table-seen : Ensures table-seen.ended (λ M 𝓤. table-seen.clauses {M = M} {𝓤 = 𝓤})
       (λ κs (table, (p, (ℓ, none))) r end. SaysSeen (table_reading table.now) p ℓ r)

@@ -1,11 +1,9 @@
 -- What a good record is, in the words of document 01: "Seats, times, numbers" and "The record".
-use Rattle.std.specs.Prelude.{◌≡◌, ◌≢◌, true, List, [], ◌∷◌, ℕ, ◌+◌, ◌*◌, ◌≤◌, ◌<◌, length, get_or}
+use Rattle.std.specs.Prelude.{◌≡◌, ◌≢◌, true, List, [], ◌∷◌, ℕ, ◌+◌, ◌*◌, ◌≤◌, ◌<◌, length, get_or, Option, Some, None}
 use Rattle.farm.specs.Sets.{Seats, bit}
 use Rattle.farm.specs.declared.places.Seat.{Seat}
 use Rattle.farm.specs.declared.places.Time.{Time}
 use Rattle.record.specs.declared.edits.Edit.{Edit}
-use Rattle.record.specs.declared.edits.Before.{Before}
-use Rattle.record.specs.declared.edits.Before.TheVariants.{Nothing, This}
 use Rattle.record.specs.Changes.{mapped}
 use Rattle.record.specs.Good.{IsAfter}
 use Rattle.record.specs.Record.{Record}
@@ -31,18 +29,18 @@ pub record EditFits (n R : ℕ) (e : Edit) : Type 0 where
   pub change : mapped e.change ≤ 65535
 
 -- An edit is after the one before: in strictly rising order of time, then seat, then cell.
-abbrev pub Follows : Before → Edit → Type 0
-Follows Nothing e = Unit {0}
-Follows (This last) e = IsAfter last e
+abbrev pub Follows : Option Edit → Edit → Type 0
+Follows None e = Unit {0}
+Follows (Some last) e = IsAfter last e
 
 -- Every edit fits and is after the one before it.
-abbrev pub EditsFit : (n R : ℕ) → Before → List Edit → Type 0
+abbrev pub EditsFit : (n R : ℕ) → Option Edit → List Edit → Type 0
 EditsFit n R before [] = Unit {0}
-EditsFit n R before (e ∷ edits) = EditFits n R e × Follows before e × EditsFit n R (This e) edits
+EditsFit n R before (e ∷ edits) = EditFits n R e × Follows before e × EditsFit n R (Some e) edits
 
 pub record GoodRecord (r : Record) : Type 0 where
   pub numbers : NumbersFit r.header.seats r.header.bound r.header.rounds r.header.edits
   pub loss_count : length r.losses ≡ r.header.seats * r.header.rounds
   pub losses : LossesFit r.header.seats r.header.rounds r.losses
   pub edit_count : length r.edits ≡ r.header.edits
-  pub edits : EditsFit r.header.seats r.header.rounds Nothing r.edits
+  pub edits : EditsFit r.header.seats r.header.rounds None r.edits

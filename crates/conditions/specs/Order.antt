@@ -1,18 +1,9 @@
 -- Refusals by their numbers, in an order. Document 01: where several hold, the order decides.
-use Rattle.std.specs.Prelude.{◌≡◌, ◌⊎◌, List, [], ◌∷◌, ℕ}
+use Rattle.std.specs.Prelude.{◌≡◌, ◌⊎◌, List, [], ◌∷◌, ℕ, Result, Ok, Err}
+use Rattle.farm.specs.declared.refusals.Refusal.{Refusal}
 use Rattle.farm.specs.Refusals.{number_of}
-use Rattle.record.specs.declared.answers.Checked.{Checked}
-use Rattle.record.specs.declared.answers.Checked.TheVariants as checked
-use Rattle.record.specs.declared.answers.Written.{Written}
-use Rattle.record.specs.declared.answers.Written.TheVariants as written
 use Rattle.record.specs.Record.{Reading, good, bad}
-use Rattle.questions.specs.declared.answers.Given.{Given}
-use Rattle.questions.specs.declared.answers.Given.TheVariants as given
-use Rattle.questions.specs.declared.answers.Standing.{Standing}
-use Rattle.questions.specs.declared.answers.Standing.TheVariants as standing
 use Rattle.questions.specs.Question.{Asked, found, refused}
-use Rattle.live.specs.declared.answers.Done.{Done}
-use Rattle.live.specs.declared.answers.Done.TheVariants as done
 
 -- ════ Tests ════
 
@@ -48,25 +39,7 @@ unfoldable pub read_number : Reading → ℕ
 read_number (good r) = 0
 read_number (bad f) = number_of f
 
--- Of the code's answers.
-
-unfoldable pub checked_number : Checked → ℕ
-checked_number (checked.Good h) = 0
-checked_number (checked.Refused f) = number_of f
-
-unfoldable pub written_number : Written → ℕ
-written_number (written.Length k) = 0
-written_number (written.Refused f) = number_of f
-
-unfoldable pub given_number : Given → ℕ
-given_number given.Done = 0
-given_number (given.Refused f) = number_of f
-
-unfoldable pub standing_number : Standing → ℕ
-standing_number standing.Loser = 0
-standing_number standing.Clean = 0
-standing_number (standing.Refused f) = number_of f
-
-unfoldable pub done_number : Done → ℕ
-done_number done.Accepted = 0
-done_number (done.Refused f) = number_of f
+-- Of the code's answers, whatever they hold.
+unfoldable pub answer_number : {A : Type 0} → Result A Refusal → ℕ
+answer_number (Ok a) = 0
+answer_number (Err f) = number_of f

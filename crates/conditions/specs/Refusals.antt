@@ -1,17 +1,15 @@
 -- Condition 1: every refusal is given by its number, exactly where its words hold, and in document 01's order.
-use Rattle.std.specs.Prelude.{◌≡◌, ◌↔◌, ◌≢◌, List, [], ◌∷◌, ℕ, ◌*◌, ◌≤◌, ◌<◌, length}
+use Rattle.std.specs.Prelude.{◌≡◌, ◌↔◌, ◌≢◌, List, [], ◌∷◌, ℕ, ◌*◌, ◌≤◌, ◌<◌, length, Result, Option, Some, None}
 use Rattle.farm.specs.Limits.{limits}
 use Rattle.farm.specs.declared.places.Seat.{Seat}
 use Rattle.farm.specs.declared.places.Time.{Time}
+use Rattle.farm.specs.declared.refusals.Refusal.{Refusal}
 use Rattle.farm.specs.declared.refusals.Refusal.TheVariants.{EndsEarly, BadForm, OutOfRange, BadLossSet, BadOrder, BytesLeft}
 use Rattle.farm.specs.Refusals.{number_of}
 use Rattle.knowledge.specs.Views.{InView}
 use Rattle.knowledge.specs.Known.{Known}
-use Rattle.record.specs.declared.answers.Checked.{Checked}
-use Rattle.record.specs.declared.answers.Written.{Written}
+use Rattle.record.specs.declared.header.Header.{Header}
 use Rattle.record.specs.declared.edits.Edit.{Edit}
-use Rattle.record.specs.declared.edits.Before.{Before}
-use Rattle.record.specs.declared.edits.Before.TheVariants.{Nothing, This}
 use Rattle.record.specs.Answers.{written_in}
 use Rattle.record.specs.Document.{reading_of, bytes_of}
 use Rattle.record.specs.Faults.{Fault, last_of}
@@ -23,10 +21,9 @@ use Rattle.reading.specs.Outcome.{ReadOutcome}
 use Rattle.questions.specs.Question.{Lent, by_value, buffer, farm_of_record, view_asked, known_asked, settled_asked, core_asked, marks_asked, count_asked, loser_asked}
 use Rattle.live_table.specs.declared.table.Table.{Table}
 use Rattle.live_table.specs.Used.{used_record, table_reading}
-use Rattle.live.specs.declared.answers.Done.{Done}
-use Rattle.live.specs.Answers.{Ends}
+use Rattle.live.specs.Answers.{Done, Ends}
 use Rattle.live.specs.Calls.{Call, opening, round, edit, present_edit}
-use Rattle.conditions.specs.Order.{Test, ◌unless◌, GiveThen, Give, asked_number, read_number, written_number, checked_number, done_number}
+use Rattle.conditions.specs.Order.{Test, ◌unless◌, GiveThen, Give, asked_number, read_number, answer_number}
 use Rattle.conditions.specs.Good.{NumbersFit, LossesFit, EditFits, Follows, GoodRecord}
 use Rattle.conditions.specs.Rules.{AtMostSeats}
 
@@ -54,16 +51,16 @@ pub record LengthsFit (n R : ℕ) (lists : Tables) : Type 0 where
   pub cells : length lists.cells ≡ length lists.seats
   pub changes : length lists.changes ≡ length lists.seats
 
-abbrev pub edit_tests : (n R : ℕ) → Before → List Edit → List Test
+abbrev pub edit_tests : (n R : ℕ) → Option Edit → List Edit → List Test
 edit_tests n R before [] = []
-edit_tests n R before (e ∷ edits) = 3 unless EditFits n R e ∷ 5 unless Follows before e ∷ edit_tests n R (This e) edits
+edit_tests n R before (e ∷ edits) = 3 unless EditFits n R e ∷ 5 unless Follows before e ∷ edit_tests n R (Some e) edits
 
 abbrev pub list_tests : (n t R : ℕ) → Tables → List Test
 list_tests n t R lists =
     3 unless NumbersFit n t R (length lists.seats)
     ∷ 10 unless LengthsFit n R lists
     ∷ 4 unless LossesFit n R lists.losses
-    ∷ edit_tests n R Nothing (edits_in lists)
+    ∷ edit_tests n R None (edits_in lists)
 
 abbrev pub ListsRefusedInOrder : Type 0
 ListsRefusedInOrder = (n t R : ℕ) (lists : Tables) → Give (list_tests n t R lists) (read_number (checked_lists limits n t R lists))
@@ -79,8 +76,8 @@ pub record TablesLong (tables : Tables) : Type 0 where
 
 abbrev pub ReadingRefusedInOrder : Type 0
 ReadingRefusedInOrder =
-    (bytes : List ℕ) (before : Tables) (answer : Checked) (after : Tables) → IsBytes bytes → ReadOutcome bytes before answer after
-    → GiveThen (7 unless TablesLong before ∷ []) (BytesGive bytes) (checked_number answer) × (checked_number answer ≢ 0 → after ≡ before)
+    (bytes : List ℕ) (before : Tables) (answer : Result Header Refusal) (after : Tables) → IsBytes bytes → ReadOutcome bytes before answer after
+    → GiveThen (7 unless TablesLong before ∷ []) (BytesGive bytes) (answer_number answer) × (answer_number answer ≢ 0 → after ≡ before)
 
 -- ════ Writing: the refusals of lists, 7 last ════
 
@@ -89,14 +86,14 @@ room7 r room = 7 unless (length (bytes_of r) ≤ room)
 
 abbrev pub WritingRefusedInOrder : Type 0
 WritingRefusedInOrder =
-    (n t R : ℕ) (lists : Tables) (old : List ℕ) (answer : Written) (new : List ℕ)
+    (n t R : ℕ) (lists : Tables) (old : List ℕ) (answer : Result ℕ Refusal) (new : List ℕ)
     → answer ≡ written_in (written_to limits n t R lists (length old)) → new ≡ buffer_after limits n t R lists old
-    → GiveThen (list_tests n t R lists) (Give (room7 (record_from n t R lists) (length old) ∷ [])) (written_number answer)
-    × (written_number answer ≢ 0 → new ≡ old)
+    → GiveThen (list_tests n t R lists) (Give (room7 (record_from n t R lists) (length old) ∷ [])) (answer_number answer)
+    × (answer_number answer ≢ 0 → new ≡ old)
 
 -- The length alone needs no room.
 abbrev pub LengthRefusedInOrder : Type 0
-LengthRefusedInOrder = (n t R : ℕ) (lists : Tables) → Give (list_tests n t R lists) (written_number (written_in (needed_by limits n t R lists)))
+LengthRefusedInOrder = (n t R : ℕ) (lists : Tables) → Give (list_tests n t R lists) (answer_number (written_in (needed_by limits n t R lists)))
 
 -- ════ The live table: 19, and what is added to it ════
 
@@ -109,9 +106,9 @@ TablesRefusedByNumber = (table : Table) → Give (any19 table ∷ []) (read_numb
 -- The record so far, written out: 19, 7.
 abbrev pub WritingOutRefusedInOrder : Type 0
 WritingOutRefusedInOrder =
-    (table : Table) (old : List ℕ) (answer : Written) (new : List ℕ)
+    (table : Table) (old : List ℕ) (answer : Result ℕ Refusal) (new : List ℕ)
     → answer ≡ written_in (answered limits (table_reading table) (length old)) → new ≡ buffer_with limits (table_reading table) old
-    → Give (any19 table ∷ room7 (used_record table) (length old) ∷ []) (written_number answer) × (written_number answer ≢ 0 → new ≡ old)
+    → Give (any19 table ∷ room7 (used_record table) (length old) ∷ []) (answer_number answer) × (answer_number answer ≢ 0 → new ≡ old)
 
 -- An opening takes a table in any state: 3. A round: 19, 11, 10, 4. An edit, placed at the present time: 19, 3, 12, 5.
 abbrev pub call_tests : Call → Table → List Test
@@ -126,13 +123,13 @@ call_tests (edit p cell change) table =
     any19 table
     ∷ 3 unless EditFits table.seats table.rounds (present_edit p cell change (used_record table))
     ∷ 12 unless (table.edits < 512)
-    ∷ 5 unless Follows (last_of Nothing (used_record table).edits) (present_edit p cell change (used_record table))
+    ∷ 5 unless Follows (last_of None (used_record table).edits) (present_edit p cell change (used_record table))
     ∷ []
 
 abbrev pub CallsRefusedInOrder : Type 0
 CallsRefusedInOrder =
     (call : Call) (before : Table) (answer : Done) (after : Table) → Ends call before answer after
-    → Give (call_tests call before) (done_number answer) × (done_number answer ≢ 0 → after ≡ before)
+    → Give (call_tests call before) (answer_number answer) × (answer_number answer ≢ 0 → after ≡ before)
 
 -- ════ What is accepted is a good record: of the bytes, of the lists, in the used part of the table ════
 

@@ -1,4 +1,5 @@
 pub mod WideLaws
+pub mod SoundLaws
 pub mod Lending
 pub mod Handing
 pub mod CompleteLaws

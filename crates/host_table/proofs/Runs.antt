@@ -5,10 +5,10 @@ use mathlib.Core.List.{[], ◌∷◌}
 use Prim.Native.Nat.{◌<◌}
 use native.Mathlib.Omega.{arith}
 use base.Logic.{id⊢}
+use Rattle.std.specs.Prelude.{Ok, Err}
 use Rattle.farm.specs.Refusals.{number_of}
 use Rattle.farm.specs.declared.refusals.Refusal.{Refusal}
 use Rattle.farm.specs.declared.refusals.Refusal.TheVariants as refusal
-use Rattle.live.specs.declared.answers.Done.TheVariants.{Accepted, Refused}
 use Rattle.live.specs.Answers.{done_of}
 use Rattle.live.specs.Calls.{opening, round, edit, answer_to}
 use Rattle.live.specs.Runs as library
@@ -46,8 +46,8 @@ above_zero refusal.EditsFull = omega arith
 above_zero refusal.BadTable = omega arith
 
 pub zero-means-accepted : ZeroMeansAccepted
-zero-means-accepted Accepted e = refl
-zero-means-accepted (Refused x) e = absurd (omega (arith, above_zero x, e))
+zero-means-accepted (Ok tt) e = refl
+zero-means-accepted (Err x) e = absurd (omega (arith, above_zero x, e))
 
 -- What the exported calls ensure, as it is generated from the source, is the step of `HostRun`. The parameters are counted from the
 -- table, which is the first.

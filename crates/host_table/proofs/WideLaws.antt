@@ -3,15 +3,14 @@
 -- Assumes nothing.
 use mathlib.Core.Path.{◌≡◌, refl, sym, ◌∙◌, ap}
 use mathlib.Core.Logic.{◌⊎◌, inl, inr}
-use mathlib.Core.Bool.{Bool, true, false, true≢false}
+use mathlib.Core.Bool.{Bool, true, false}
 use Prim.Native.Nat.{ℕ, suc, ◌-◌, ◌*◌, ◌<◌, ◌≤◌}
 use native.Mathlib.Omega.{arith}
 use lib.Dec.{leb}
 use lib.IntN.{ℤ, pos, negsuc}
-use lib.Signed.{lt_z}
 use mir.Syntax.{w16}
 use mir.Val.{SFits}
-use borrow.Author.Tests.{ltb-true, ltb-false, leb-false, le-leb, lt-leb}
+use borrow.Author.Tests.{leb-true, leb-false, le-leb}
 use Rattle.farm.specs.Limits.{limits}
 use Rattle.farm.specs.declared.places.Seat.{Seat}
 use Rattle.farm.specs.declared.refusals.Refusal.TheVariants.{OutOfRange, BadTable}
@@ -22,12 +21,11 @@ use Rattle.record.specs.Writing.{faulty, unless}
 use Rattle.record.proofs.GoodLaws.{header-facts, record-facts, edit-facts}
 use Rattle.live_table.specs.declared.table.Table.{Table}
 use Rattle.live_table.specs.Used.{used_record}
-use Rattle.live.specs.declared.answers.Done.{Done}
-use Rattle.live.specs.Answers.{Ends, done_of}
+use Rattle.live.specs.Answers.{Done, Ends, done_of}
 use Rattle.live.specs.Calls.{Call, opening, edit, present_edit, empty_header, tests_of, first_failing, kept_or, answer_to, table_after}
 use Rattle.host.specs.declared.numbers.SeatNumber.{SeatNumber}
 use Rattle.host.specs.Numbers.{at_most, seat_named}
-use Rattle.host.specs.Results.{done_number}
+use Rattle.host.specs.Results.{refusal_number}
 use Rattle.host.proofs.NumberLaws.{far-number, near-number}
 use Rattle.host.proofs.WideLaws.{Fits, header-wide}
 use Rattle.host_table.specs.Codes.{EndsWith, EditHanded}
@@ -37,9 +35,9 @@ pub record Alike (call call' : Call) (table : Table) : Type 0 where
   pub answers : answer_to call' table ≡ answer_to call table
   pub tables : table_after call' table ≡ table_after call table
 
-pub ends_with : {call call' : Call} {before after : Table} {answer : Done} {number : ℕ} → Alike call call' before → Ends call' before answer after → number ≡ done_number answer
+pub ends_with : {call call' : Call} {before after : Table} {answer : Done} {number : ℕ} → Alike call call' before → Ends call' before answer after → number ≡ refusal_number answer
     → EndsWith call before number after
-ends_with alike ends told = (told ∙ ap done_number (ends.0 ∙ ap done_of alike.answers), ends.1 ∙ alike.tables)
+ends_with alike ends told = (told ∙ ap refusal_number (ends.0 ∙ ap done_of alike.answers), ends.1 ∙ alike.tables)
 
 -- ════ Opening ════
 
@@ -122,36 +120,20 @@ module _ (cell : ℕ) (table : Table) where
 
 -- ════ Changes of height ════
 
--- A change of 32 bits, by the two tests of the code.
-below-far : (z : ℤ) → lt_z z (negsuc 32767) ≡ true → leb (mapped z) 65535 ≡ false
+-- A change of height is one that 16 bits hold.
+fits-mapped : (z : ℤ) → SFits w16 z → leb (mapped z) 65535 ≡ true
 unfolding mapped
-below-far (pos d) e = absurd (true≢false (sym e))
-below-far (negsuc d) e = let far = ltb-true 32767 d e in lt-leb (2 * suc d - 1) 65535 (omega (arith, far))
+fits-mapped (pos d) fits = le-leb (2 * d) 65535 (omega (arith, fits.sfits))
+fits-mapped (negsuc d) fits = le-leb (2 * suc d - 1) 65535 (omega (arith, fits.sfits))
 
-above-far : (z : ℤ) → lt_z (pos 32767) z ≡ true → leb (mapped z) 65535 ≡ false
+mapped-fits : (z : ℤ) → leb (mapped z) 65535 ≡ true → SFits w16 z
 unfolding mapped
-above-far (pos d) e = let far = ltb-true 32767 d e in lt-leb (2 * d) 65535 (omega (arith, far))
-above-far (negsuc d) e = absurd (true≢false (sym e))
-
-between : (z : ℤ) → lt_z z (negsuc 32767) ≡ false → lt_z (pos 32767) z ≡ false → (leb (mapped z) 65535 ≡ true) × SFits w16 z
-unfolding mapped
-between (pos d) low high = let near = ltb-false 32767 d high in (le-leb (2 * d) 65535 (omega (arith, near)), record { sfits = omega (arith, near) })
-between (negsuc d) low high = let near = ltb-false 32767 d low in (le-leb (2 * suc d - 1) 65535 (omega (arith, near)), record { sfits = omega (arith, near) })
+mapped-fits (pos d) e = let low = leb-true (2 * d) 65535 e in record { sfits = omega (arith, low) }
+mapped-fits (negsuc d) e = let low = leb-true (2 * suc d - 1) 65535 e in record { sfits = omega (arith, low) }
 
 module _ (seat : SeatNumber) (z : ℤ) where
-  far-change : leb (mapped z) 65535 ≡ false → EditHanded seat z (record { 0 = 255 }) (pos 0)
-  far-change far = record { whose = rw far refl; what = rw far refl }
+  pub near-change : SFits w16 z → (handed : Seat) → handed ≡ record { 0 = at_most 255 seat.0 } → EditHanded seat z handed z
+  near-change fits handed e = let small = fits-mapped z fits in record { whose = rw small e; what = rw small refl }
 
-  pub low-change : lt_z z (negsuc 32767) ≡ true → EditHanded seat z (record { 0 = 255 }) (pos 0)
-  low-change e = far-change (below-far z e)
-
-  pub high-change : lt_z (pos 32767) z ≡ true → EditHanded seat z (record { 0 = 255 }) (pos 0)
-  high-change e = far-change (above-far z e)
-
-  pub change-fits : lt_z z (negsuc 32767) ≡ false → lt_z (pos 32767) z ≡ false → SFits w16 z
-  change-fits low high = (between z low high).1
-
-  pub near-change : lt_z z (negsuc 32767) ≡ false → lt_z (pos 32767) z ≡ false → (handed : Seat) → handed ≡ record { 0 = at_most 255 seat.0 } → EditHanded seat z handed z
-  near-change low high handed e =
-      let fits = (between z low high).0 in
-      record { whose = rw fits e; what = rw fits refl }
+  pub far-change : (SFits w16 z → ⊥) → EditHanded seat z (record { 0 = 255 }) (pos 0)
+  far-change far = let large = refuted _ (λ small. far (mapped-fits z small)) in record { whose = rw large refl; what = rw large refl }

@@ -1,11 +1,10 @@
 -- Any run of a host's calls on its table, and what it is in the library's words.
-use Rattle.std.specs.Prelude.{◌≡◌, List, [], ◌∷◌, map, ℕ}
+use Rattle.std.specs.Prelude.{◌≡◌, List, [], ◌∷◌, map, ℕ, Ok}
 use Rattle.live_table.specs.declared.table.Table.{Table}
-use Rattle.live.specs.declared.answers.Done.{Done}
-use Rattle.live.specs.declared.answers.Done.TheVariants.{Accepted}
+use Rattle.live.specs.Answers.{Done}
 use Rattle.live.specs.Calls.{Call}
 use Rattle.live.specs.Runs.{Run}
-use Rattle.host.specs.Results.{done_number}
+use Rattle.host.specs.Results.{refusal_number}
 use Rattle.host_table.specs.Codes.{EndsWith}
 
 -- Each call gets the table as the one before left it, and ends as its contract says.
@@ -18,7 +17,7 @@ pub data HostRun : List Call → (before : Table) → List ℕ → (after : Tabl
 pub record RunBeneath (calls : List Call) (before : Table) (numbers : List ℕ) (after : Table) : Type 0 where
   pub answers : List Done
   pub run : Run calls before answers after
-  pub numbered : numbers ≡ map done_number answers
+  pub numbered : numbers ≡ map refusal_number answers
 
 -- So the law of any run (`live`'s `RunKeepsTheRecord`) holds of a host's calls.
 abbrev pub HostRunIsARun : Type 0
@@ -27,4 +26,4 @@ HostRunIsARun =
 
 -- A host sees from the number whether its call was accepted.
 abbrev pub ZeroMeansAccepted : Type 0
-ZeroMeansAccepted = (answer : Done) → done_number answer ≡ 0 → answer ≡ Accepted
+ZeroMeansAccepted = (answer : Done) → refusal_number answer ≡ 0 → answer ≡ Ok tt

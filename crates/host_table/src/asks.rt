@@ -5,14 +5,12 @@ ghost use Rattle.questions.specs.Answers.{seen_asked, agreed_asked, standing_ans
 ghost use Rattle.host.specs.Numbers.{seat_named, time_named};
 ghost use Rattle.host.specs.Results.{FillsTold, seen_told, agreed_told, standing_told};
 ghost use Rattle.live_table.specs.Used.{table_reading};
-ghost use Rattle.table_answers.specs.Told.{RecordTold};
+ghost use Rattle.host_table.specs.Told.{RecordTold};
 
 use host::numbers::{SeatNumber, TimeNumber};
-use host::results::{AgreedTold, LengthTold, SeenTold, StandingTold};
+use host::results::{AgreedTold, LengthTold, SeenTold, StandingTold, refusal_number};
+use live_questions::asks::{agreed, core, marks, seen, standing, view, write_out};
 use live_table::table::Table;
-use table_answers::lent::{
-    agreed_told, core_told, marks_told, record_told, seen_told, standing_told, view_told,
-};
 
 // What a seat has seen at a time.
 #[unsafe(no_mangle)]
@@ -23,19 +21,7 @@ pub extern "C" fn ricecrock_table_seen(
 ) -> SeenTold
     ensures { result ≡ seen_told (seen_asked (table_reading table.now) (seat_named seat) (time_named time)) }
 {
-    seen_told(
-        &table.losses,
-        &table.editors,
-        &table.times,
-        &table.cells,
-        &table.changes,
-        table.seats,
-        table.bound,
-        table.rounds,
-        table.edits,
-        seat,
-        time,
-    )
+    seen(table, seat.into(), time.into()).into()
 }
 
 // What is agreed at a place.
@@ -47,19 +33,7 @@ pub extern "C" fn ricecrock_table_agreed(
 ) -> AgreedTold
     ensures { result ≡ agreed_told (agreed_asked (table_reading table.now) (seat_named seat) (time_named time)) }
 {
-    agreed_told(
-        &table.losses,
-        &table.editors,
-        &table.times,
-        &table.cells,
-        &table.changes,
-        table.seats,
-        table.bound,
-        table.rounds,
-        table.edits,
-        seat,
-        time,
-    )
+    agreed(table, seat.into(), time.into()).into()
 }
 
 // Whether a seat is a loser of the record so far.
@@ -67,18 +41,7 @@ pub extern "C" fn ricecrock_table_agreed(
 pub extern "C" fn ricecrock_table_standing(table: &Table, seat: SeatNumber) -> StandingTold
     ensures { result ≡ standing_told (standing_answer (loser_asked (table_reading table.now) (seat_named seat))) }
 {
-    standing_told(
-        &table.losses,
-        &table.editors,
-        &table.times,
-        &table.cells,
-        &table.changes,
-        table.seats,
-        table.bound,
-        table.rounds,
-        table.edits,
-        seat,
-    )
+    standing(table, seat.into()).into()
 }
 
 // The view of a place, into a lent buffer of at least n numbers.
@@ -91,20 +54,7 @@ pub extern "C" fn ricecrock_table_view(
 ) -> u8
     ensures { FillsTold (λ room. view_asked room (table_reading table.now) (seat_named seat) (time_named time)) out.old result out.new }
 {
-    view_told(
-        &table.losses,
-        &table.editors,
-        &table.times,
-        &table.cells,
-        &table.changes,
-        table.seats,
-        table.bound,
-        table.rounds,
-        table.edits,
-        seat,
-        time,
-        out,
-    )
+    refusal_number(view(table, seat.into(), time.into(), out))
 }
 
 // The core of a place, into a lent buffer of at least n numbers.
@@ -117,20 +67,7 @@ pub extern "C" fn ricecrock_table_core(
 ) -> u8
     ensures { FillsTold (λ room. core_asked room (table_reading table.now) (seat_named seat) (time_named time)) out.old result out.new }
 {
-    core_told(
-        &table.losses,
-        &table.editors,
-        &table.times,
-        &table.cells,
-        &table.changes,
-        table.seats,
-        table.bound,
-        table.rounds,
-        table.edits,
-        seat,
-        time,
-        out,
-    )
+    refusal_number(core(table, seat.into(), time.into(), out))
 }
 
 // Edit marks, into a lent buffer of at least as many bytes as there are edits.
@@ -143,20 +80,7 @@ pub extern "C" fn ricecrock_table_marks(
 ) -> u8
     ensures { FillsTold (λ room. marks_asked room (table_reading table.now) (seat_named seat) (time_named time)) out.old result out.new }
 {
-    marks_told(
-        &table.losses,
-        &table.editors,
-        &table.times,
-        &table.cells,
-        &table.changes,
-        table.seats,
-        table.bound,
-        table.rounds,
-        table.edits,
-        seat,
-        time,
-        out,
-    )
+    refusal_number(marks(table, seat.into(), time.into(), out))
 }
 
 // The record so far as bytes, into a lent buffer: 19, 7.
@@ -164,16 +88,5 @@ pub extern "C" fn ricecrock_table_marks(
 pub extern "C" fn ricecrock_table_record(table: &Table, out: &mut [u8]) -> LengthTold
     ensures { RecordTold (table_reading table.now) out.old result out.new }
 {
-    record_told(
-        &table.losses,
-        &table.editors,
-        &table.times,
-        &table.cells,
-        &table.changes,
-        table.seats,
-        table.bound,
-        table.rounds,
-        table.edits,
-        out,
-    )
+    write_out(table, out).into()
 }

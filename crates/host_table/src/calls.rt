@@ -1,10 +1,12 @@
-// The calls that change the live table. Each lends the table's parts to a covered function: nothing of the table is copied but its numbers.
+// The calls that change the live table.
 ghost use Rattle.live.specs.Calls.{opening, round, edit};
 ghost use Rattle.host.specs.Numbers.{seat_named};
-ghost use Rattle.host_table.specs.Codes.{EndsWith};
+ghost use Rattle.host_table.specs.Codes.{EndsWith, EditHanded};
 
-use crate::coded::{coded_edit, coded_opening, coded_round};
-use host::numbers::SeatNumber;
+use farm::places::Seat;
+use host::numbers::{SeatNumber, byte_of};
+use host::results::refusal_number;
+use live::places::{edit_into, open_into, round_into};
 use live_table::table::Table;
 
 // Opens a table in any state for a new record: 3.
@@ -12,14 +14,7 @@ use live_table::table::Table;
 pub extern "C" fn ricecrock_table_open(table: &mut Table, seats: u32, bound: u32) -> u8
     ensures { EndsWith (opening seats bound) table.old result table.new }
 {
-    coded_opening(
-        &mut table.seats,
-        &mut table.bound,
-        &mut table.rounds,
-        &mut table.edits,
-        seats,
-        bound,
-    )
+    refusal_number(open_into(table, byte_of(seats), byte_of(bound)))
 }
 
 // Adds a round, a loss set for each sender: 19, 11, 10, 4.
@@ -27,18 +22,30 @@ pub extern "C" fn ricecrock_table_open(table: &mut Table, seats: u32, bound: u32
 pub extern "C" fn ricecrock_table_add_round(table: &mut Table, sets: &[u16]) -> u8
     ensures { EndsWith (round sets.now) table.old result table.new }
 {
-    coded_round(
-        table.seats,
-        table.bound,
-        &mut table.rounds,
-        table.edits,
-        &mut table.losses,
-        &table.editors,
-        &table.times,
-        &table.cells,
-        &table.changes,
-        sets,
-    )
+    refusal_number(round_into(table, sets))
+}
+
+// The numbers of an edit that the library's call can take.
+#[derive(Clone, Copy)]
+struct Small {
+    seat: Seat,
+    change: i16,
+}
+
+// A change that is no change of height is handed on as an edit of a seat that no record has: it is refused 3 as well.
+fn small_edit(seat: SeatNumber, change: i32) -> Small
+    ensures { EditHanded seat change result.seat result.change }
+{
+    match i16::try_from(change) {
+        Ok(change) => Small {
+            seat: seat.into(),
+            change,
+        },
+        Err(_) => Small {
+            seat: Seat(255),
+            change: 0,
+        },
+    }
 }
 
 // Adds an edit at the present time: 19, 3, 12, 5.
@@ -51,18 +58,6 @@ pub extern "C" fn ricecrock_table_add_edit(
 ) -> u8
     ensures { EndsWith (edit (seat_named seat) cell change) table.old result table.new }
 {
-    coded_edit(
-        table.seats,
-        table.bound,
-        table.rounds,
-        &mut table.edits,
-        &table.losses,
-        &mut table.editors,
-        &mut table.times,
-        &mut table.cells,
-        &mut table.changes,
-        seat,
-        cell,
-        change,
-    )
+    let small = small_edit(seat, change);
+    refusal_number(edit_into(table, small.seat, cell, small.change))
 }

@@ -1,2 +1,0 @@
-pub mod SoundLaws
-pub mod CompleteLaws
