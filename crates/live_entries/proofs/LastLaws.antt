@@ -7,10 +7,10 @@ use native.Mathlib.Omega.{arith}
 use lib.IntN.{pos}
 use lib.ListN.{take, get_or}
 use lib.Seq.{length-take-le, take-suc}
-use Rattle.record.specs.Faults.{last_of}
-use Rattle.record.specs.Tables.{edit_of, edits_from}
 use Rattle.std.specs.Prelude.{Option}
 use Rattle.std.specs.Prelude.{Some, None}
+use Rattle.record.specs.Faults.{last_of}
+use Rattle.record.specs.Tables.{edit_of, edits_from}
 use Rattle.record.specs.declared.edits.Edit.{Edit}
 use Rattle.live_table.proofs.ListLaws.{edits-from-append}
 use Rattle.live_table.specs.Used.{used_record}

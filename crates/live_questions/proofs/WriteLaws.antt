@@ -3,52 +3,37 @@
 use mathlib.Core.Path.{◌≡◌, refl, sym, ◌∙◌}
 use mathlib.Core.Bool.{true, false}
 use mathlib.Core.List.{List}
-use Prim.Native.Nat.{ℕ, ◌*◌}
+use Prim.Native.Nat.{ℕ}
 use lib.ListN.{length, take}
 use Rattle.std.specs.Prelude.{Result, Err}
 use Rattle.farm.specs.Limits.{limits}
 use Rattle.farm.specs.declared.refusals.Refusal.TheVariants.{BadTable}
 use Rattle.record.specs.Writing.{checked_lists, answered, written_to, buffer_with, buffer_after}
 use Rattle.record.specs.Answers.{written_in}
-use Rattle.record.specs.Columns.{tables_of}
 use Rattle.record.specs.Good.{good_record}
 use Rattle.farm.specs.declared.refusals.Refusal.{Refusal}
-use Rattle.live_table.proofs.SoundLaws.{used_tables}
-use Rattle.record.proofs.ColumnLaws.{Columns, columns-from-edits}
+use Rattle.live_table.proofs.SoundLaws.{used_tables, used-columns, used-back}
+use Rattle.record.proofs.ColumnLaws.{Columns}
 use Rattle.record.proofs.GoodLaws.{record-facts}
 use Rattle.record.proofs.WritingLaws.{good-lists-accepted}
 use Rattle.live_table.specs.declared.table.Table.{Table}
 use Rattle.live_table.specs.Used.{used_record, table_reading}
 use Rattle.live_table.proofs.UsedLaws.{reading-good, reads-bad}
-use Rattle.live_table.proofs.ListLaws.{cut-full}
+use Rattle.live_table.proofs.ListLaws.{Full, cut-full}
 
 -- The edits of a good used part, and the lists that they stand in.
 module _ (table : Table) (g : good_record limits (used_record table) ≡ true) where
-  abbrev E : ℕ
-  E = table.edits
-
-  pub columns : Columns (take E table.editors) (take E table.times) (take E table.cells) (take E table.changes) (used_record table).edits
+  full : Full table.edits (take table.edits table.editors) (take table.edits table.times) (take table.edits table.cells) (take table.edits table.changes)
   unfolding used_record
-  columns =
-      let full = cut-full E table.editors table.times table.cells table.changes (record-facts limits (used_record table) g).edit_count in
-      columns-from-edits (take E table.editors) (take E table.times) (take E table.cells) (take E table.changes)
-      (full.times ∙ sym full.seats) (full.cells ∙ sym full.seats) (full.changes ∙ sym full.seats)
+  full = cut-full table.edits table.editors table.times table.cells table.changes (record-facts limits (used_record table) g).edit_count
+
+  pub columns : Columns (take table.edits table.editors) (take table.edits table.times) (take table.edits table.cells) (take table.edits table.changes) (used_record table).edits
+  columns = used-columns table full
 
   -- The lists of the used part are accepted as the record that it is.
-  pub used-lists : table_reading table
-      ≡ checked_lists limits table.seats table.bound table.rounds (used_tables table)
-  unfolding used_record tables_of
-  used-lists =
-      let c = columns in
-      let same : tables_of (used_record table) ≡ used_tables table
-      = λ i. record {
-        losses = take (table.seats * table.rounds) table.losses;
-        seats = c.seats-same i;
-        times = c.times-same i;
-        cells = c.cells_same i;
-        changes = c.changes-same i;
-      } in
-      reading-good table g ∙ sym (rw same at (good-lists-accepted limits (used_record table) g))
+  pub used-lists : table_reading table ≡ checked_lists limits table.seats table.bound table.rounds (used_tables table)
+  unfolding used_record
+  used-lists = reading-good table g ∙ sym (rw (used-back table full) at (good-lists-accepted limits (used_record table) g))
 
 -- ════ The record, written out ════
 

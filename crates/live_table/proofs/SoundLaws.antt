@@ -7,9 +7,9 @@ use native.Mathlib.Nat.{mul-le-mul}
 use native.Mathlib.Omega.{arith}
 use lib.ListN.{length, take}
 use lib.Seq.{length-take-le}
+use Rattle.std.specs.Result.{is_ok}
 use Rattle.farm.specs.Limits.{limits}
 use Rattle.farm.specs.declared.refusals.Refusal.{Refusal}
-use Rattle.std.specs.Result.{is_ok}
 use Rattle.record.specs.Answers.{judged_in}
 use Rattle.record.specs.Writing.{Verdict, lists_of, accepted, faulty, record_from, judged_lists, judged, checked_lists}
 use Rattle.record.specs.Columns.{tables_of}
@@ -17,11 +17,12 @@ use Rattle.record.specs.Good.{good_record}
 use Rattle.record.specs.Record.{Record, good, bad}
 use Rattle.record.specs.Tables.{Tables}
 use Rattle.record.proofs.AcceptedLaws.{checked-good}
-use Rattle.record.proofs.ColumnLaws.{columns-from-edits}
+use Rattle.record.proofs.ColumnLaws.{Columns, columns-from-edits}
 use Rattle.record.proofs.GoodLaws.{header-facts, record-facts}
 use Rattle.record.proofs.WritingLaws.{lists-accepted, good-lists-accepted}
 use Rattle.live_table.specs.declared.table.Table.{Table}
 use Rattle.live_table.specs.Used.{used_record}
+use Rattle.live_table.proofs.ListLaws.{Full}
 
 pub not_so : (b : Bool) → (b ≡ true → ⊥) → b ≡ false
 not_so true h = absurd (h refl)
@@ -49,27 +50,18 @@ abbrev pub used_tables : Table → Tables
 used_tables t =
     lists_of (take (t.seats * t.rounds) t.losses) (take t.edits t.editors) (take t.edits t.times) (take t.edits t.cells) (take t.edits t.changes)
 
-module _ (t : Table) (arrays : Arrays t) (held : t.edits ≤ 512) where
-  who : length (take t.edits t.editors) ≡ t.edits
-  who = length-take-le t.edits t.editors (omega arith)
+-- Where the lists of edits hold as many as the table counts, its used part and these lists are one and the same record.
+module _ (t : Table) (full : Full t.edits (take t.edits t.editors) (take t.edits t.times) (take t.edits t.cells) (take t.edits t.changes)) where
+  pub used-columns : Columns (take t.edits t.editors) (take t.edits t.times) (take t.edits t.cells) (take t.edits t.changes) (used_record t).edits
+  unfolding used_record
+  used-columns =
+      columns-from-edits (take t.edits t.editors) (take t.edits t.times) (take t.edits t.cells) (take t.edits t.changes)
+      (full.times ∙ sym full.seats) (full.cells ∙ sym full.seats) (full.changes ∙ sym full.seats)
 
-  when : length (take t.edits t.times) ≡ t.edits
-  when = length-take-le t.edits t.times (omega arith)
-
-  place : length (take t.edits t.cells) ≡ t.edits
-  place = length-take-le t.edits t.cells (omega arith)
-
-  height : length (take t.edits t.changes) ≡ t.edits
-  height = length-take-le t.edits t.changes (omega arith)
-
-  from : record_from t.seats t.bound t.rounds (used_tables t) ≡ used_record t
-  unfolding record_from used_record
-  from = rw who
-
-  back : tables_of (used_record t) ≡ used_tables t
+  pub used-back : tables_of (used_record t) ≡ used_tables t
   unfolding tables_of used_record
-  back =
-      let c = columns-from-edits (take t.edits t.editors) (take t.edits t.times) (take t.edits t.cells) (take t.edits t.changes) (when ∙ sym who) (place ∙ sym who) (height ∙ sym who) in
+  used-back =
+      let c = used-columns in
       λ i. record {
         losses = take (t.seats * t.rounds) t.losses;
         seats = c.seats-same i;
@@ -78,14 +70,27 @@ module _ (t : Table) (arrays : Arrays t) (held : t.edits ≤ 512) where
         changes = c.changes-same i;
       }
 
+  used-from : record_from t.seats t.bound t.rounds (used_tables t) ≡ used_record t
+  unfolding record_from used_record
+  used-from = rw full.seats
+
+module _ (t : Table) (arrays : Arrays t) (held : t.edits ≤ 512) where
+  full : Full t.edits (take t.edits t.editors) (take t.edits t.times) (take t.edits t.cells) (take t.edits t.changes)
+  full = record {
+    seats = length-take-le t.edits t.editors (omega arith);
+    times = length-take-le t.edits t.times (omega arith);
+    cells = length-take-le t.edits t.cells (omega arith);
+    changes = length-take-le t.edits t.changes (omega arith);
+  }
+
   accepted-table : judged_lists limits t.seats t.bound t.rounds (used_tables t) ≡ accepted → true ≡ good_record limits (used_record t)
   accepted-table v =
-      sym (subst (λ (r : Record). good_record limits r ≡ true) from (lists-accepted limits t.seats t.bound t.rounds (used_tables t) _ (checked-good t.seats t.bound t.rounds (used_tables t) limits v)).sound)
+      sym (subst (λ (r : Record). good_record limits r ≡ true) (used-from t full) (lists-accepted limits t.seats t.bound t.rounds (used_tables t) _ (checked-good t.seats t.bound t.rounds (used_tables t) limits v)).sound)
 
   refused-table : (f : Refusal) → judged_lists limits t.seats t.bound t.rounds (used_tables t) ≡ faulty f → false ≡ good_record limits (used_record t)
   unfolding checked_lists judged used_record
   refused-table f v = sym (not_so _ (λ g.
-      let is-good : checked_lists limits t.seats t.bound t.rounds (used_tables t) ≡ good (used_record t) = rw back at (good-lists-accepted limits (used_record t) g) in
+      let is-good : checked_lists limits t.seats t.bound t.rounds (used_tables t) ≡ good (used_record t) = rw (used-back t full) at (good-lists-accepted limits (used_record t) g) in
       let is-bad : checked_lists limits t.seats t.bound t.rounds (used_tables t) ≡ bad f = rw v in
       cc))
 

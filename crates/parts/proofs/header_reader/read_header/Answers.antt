@@ -4,7 +4,7 @@ use Rattle.numbers.proofs.CursorLaws.{field-was, field-refused, cursor-drop}
 use Rattle.numbers.specs.Cursors.{read_in}
 use Rattle.record.specs.Header.{take_header}
 use Rattle.record.specs.Taking.{◌>>=◌}
-use Rattle.std.proofs.Common.{arith}
+use Rattle.std.proofs.Common.{◌-◌, arith}
 use Rattle.parts.proofs.header_reader.read_header.Goals as goal
 
 pub returns-in_default : goal.returns-in_default
@@ -19,7 +19,7 @@ unfolding read_in take_header ◌>>=◌
 returns-in_default-t c =
     rw (
       (field-was _ _ _ _ _ _ _ c.read_within-n.ensures c.in-Ok.is).took,
-      field-refused _ _ _ _ _ _ c.read_within-t.ensures c.unwrap_err-in_default-t.ensures,
+      field-refused 0 (c.in-Ok.seats - 1) _ _ _ _ c.read_within-t.ensures c.unwrap_err-in_default-t.ensures,
     )
 
 pub returns-in_default-r : goal.returns-in_default-r
@@ -27,7 +27,7 @@ unfolding read_in take_header ◌>>=◌
 returns-in_default-r c =
     rw (
       (field-was _ _ _ _ _ _ _ c.read_within-n.ensures c.in-Ok.is).took,
-      (field-was _ _ _ _ _ _ _ c.read_within-t.ensures c.in-Ok-t.is).took,
+      (field-was 0 (c.in-Ok.seats - 1) _ _ _ _ _ c.read_within-t.ensures c.in-Ok-t.is).took,
       field-refused _ _ _ _ _ _ c.read_within-r.ensures c.unwrap_err-in_default-r.ensures,
     )
 
@@ -36,7 +36,7 @@ unfolding read_in take_header ◌>>=◌
 returns-in_default-e c =
     rw (
       (field-was _ _ _ _ _ _ _ c.read_within-n.ensures c.in-Ok.is).took,
-      (field-was _ _ _ _ _ _ _ c.read_within-t.ensures c.in-Ok-t.is).took,
+      (field-was 0 (c.in-Ok.seats - 1) _ _ _ _ _ c.read_within-t.ensures c.in-Ok-t.is).took,
       (field-was _ _ _ _ _ _ _ c.read_within-r.ensures c.in-Ok-r.is).took,
       field-refused _ _ _ _ _ _ c.read_within-e.ensures c.unwrap_err-in_default-e.ensures,
     )
@@ -46,7 +46,7 @@ overflow_cast-header c = omega (arith, (field-was _ _ _ _ _ _ _ c.read_within-n.
 
 pub overflow_cast-header-2 : goal.overflow_cast-header-2
 overflow_cast-header-2 c =
-    omega (arith, (field-was _ _ _ _ _ _ _ c.read_within-n.ensures c.in-Ok.is).below, (field-was _ _ _ _ _ _ _ c.read_within-t.ensures c.in-Ok-t.is).below)
+    omega (arith, (field-was _ _ _ _ _ _ _ c.read_within-n.ensures c.in-Ok.is).below, (field-was 0 (c.in-Ok.seats - 1) _ _ _ _ _ c.read_within-t.ensures c.in-Ok-t.is).below)
 
 pub overflow_cast-header-3 : goal.overflow_cast-header-3
 overflow_cast-header-3 c = omega (arith, (field-was _ _ _ _ _ _ _ c.read_within-r.ensures c.in-Ok-r.is).below)
@@ -60,7 +60,7 @@ returns c =
     let last = field-was _ _ _ _ _ _ _ c.read_within-e.ensures c.in-Ok-e.is in
     rw (
       (field-was _ _ _ _ _ _ _ c.read_within-n.ensures c.in-Ok.is).took,
-      (field-was _ _ _ _ _ _ _ c.read_within-t.ensures c.in-Ok-t.is).took,
+      (field-was 0 (c.in-Ok.seats - 1) _ _ _ _ _ c.read_within-t.ensures c.in-Ok-t.is).took,
       (field-was _ _ _ _ _ _ _ c.read_within-r.ensures c.in-Ok-r.is).took,
       last.took,
       cursor-drop _ _ last.inside,
