@@ -89,7 +89,7 @@ pub fn fill_edits(
     Ok(at)
 }
 
-// All of a good record into tables with room for any record, and its header.
+// All of a good record into tables with room for any record, and its header. The five lists come one by one, as C lends them.
 pub fn fill(
     bytes: &[u8],
     losses: &mut [u16],
