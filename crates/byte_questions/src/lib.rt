@@ -1,4 +1,4 @@
-// Questions about a record given as bytes: the record's own refusals, then 8, 7, 9.
+// Questions about a record given as bytes: the record's own refusals, then 8, 7, 9. Why each carrier has its own: carriers/src/lib.rt.
 #![tactic(auto)]
 
 pub mod asks; // asks.rt: the questions

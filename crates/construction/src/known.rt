@@ -13,7 +13,7 @@ use viewing::losses::was_lost;
 use viewing::sets::with_seat;
 use viewing::views::{ROOM, TABLE, seat_view, view_of, views_at};
 
-// The known sets of all seats' views at one time, 0 for every seat from n on.
+// The known sets of all seats' views at one time, 0 for every seat from n on. A set is no count, so this is no `Counts`.
 #[derive(Clone, Copy)]
 pub struct KnownSets {
     pub of: [u16; ROOM],

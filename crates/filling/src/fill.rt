@@ -33,6 +33,7 @@ pub fn fill_losses(bytes: &[u8], count: usize, losses: &mut [u16]) -> Result<Cur
 
 // An edit that the first pass accepted for so many seats and rounds: its numbers are not tested again, so that only the
 // contract speaks of these two.
+// With `read_edit` in its place `ricecrock_bytes_read` takes 82 % longer, and 8 % longer where it is always inlined.
 fn read_accepted(bytes: &[u8], from: Cursor, n: u8, rounds: u16) -> Result<(Edit, Cursor), Refusal>
     requires { Gives (take_edit limits n rounds (drop from.at bytes.now)) }
     ensures { result ≡ read_in bytes.now (take_edit limits n rounds (drop from.at bytes.now)) }
@@ -88,7 +89,7 @@ pub fn fill_edits(
     Ok(at)
 }
 
-// All of a good record into tables with room for any record, and its header.
+// All of a good record into tables with room for any record, and its header. The five lists come one by one, as C lends them.
 pub fn fill(
     bytes: &[u8],
     losses: &mut [u16],

@@ -1,5 +1,5 @@
 // Numbers as a host gives them. One that is too wide for the library becomes the largest that its type holds, which no record
-// has: so it is refused as any other that is too large.
+// has: so it is refused as any other that is too large. Each width is one line, so one function for all of them would be no plainer.
 ghost use Rattle.std.specs.Prelude.{◌≡◌};
 ghost use Rattle.host.specs.Numbers.{at_most};
 

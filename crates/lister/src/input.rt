@@ -8,7 +8,8 @@ use std::io::{self, Read, Stdin};
 use std::ops::ControlFlow;
 use taking::reads::after_read;
 
-// Reads until the buffer is full or the input ends, and hands a failure up. The answer is how many bytes were taken.
+// Reads until the buffer is full or the input ends, and hands a failure up. The answer is how many bytes were taken. It is a `loop`,
+// since each read goes behind the bytes that are there.
 pub fn take_input(stdin: &mut Stdin, buffer: &mut [u8]) -> io::Result<usize>
     requires { length buffer.old ≡ input_room }
     ensures { Within input_room result }

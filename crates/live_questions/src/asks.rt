@@ -89,6 +89,7 @@ pub fn write_out(table: &Table, out: &mut [u8]) -> Result<usize, Refusal>
     if !judge_table(table) {
         return Err(Refusal::BadTable);
     }
+    // The used part, as `judge_table` has it, which says why it stands twice.
     let sets = table.seats as usize * table.rounds as usize;
     let held = table.edits as usize;
     let used = Lists {

@@ -20,6 +20,8 @@ pub fn judge_table(table: &Table) -> bool
     {
         return false;
     }
+    // The used part stands here and in `write_out`: no clause can say where slices lie, so the law of completeness of a public function
+    // that returns them was not to be proved.
     let sets = table.seats as usize * table.rounds as usize;
     let held = table.edits as usize;
     let used = Lists {

@@ -10,7 +10,7 @@ pub struct Table {
     pub edits: u16,
     // For each round, for each sender, the set of seats that the send did not reach.
     pub losses: [u16; 889],
-    // The edits, as four parallel lists: who made it, when, where, and by how much.
+    // The edits, as four parallel lists, as C has them: who made it, when, where, and by how much.
     pub editors: [u8; 512],
     pub times: [u16; 512],
     pub cells: [u32; 512],

@@ -1,4 +1,4 @@
-// A number in its shortest form: how many bytes it takes, and its bytes in a buffer.
+// A number in its shortest form: how many bytes it takes, and its bytes in a buffer. The form is document 01's own.
 ghost use Rattle.std.specs.Prelude.{◌≡◌, ◌+◌, ◌^◌, ◌<◌, ◌≤◌, length};
 ghost use Rattle.farm.specs.Limits.{limits};
 ghost use Rattle.record.specs.Numbers.{number_bytes};

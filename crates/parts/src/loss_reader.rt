@@ -20,7 +20,10 @@ pub fn read_set(
     requires { seats < 16 }
     ensures { result ≡ read_in bytes.now (take_set limits seats sender (drop from.at bytes.now)) }
 {
-    let (set, next) = read_number(bytes, from)?;
+    let number = read_number(bytes, from);
+    let Ok((set, next)) = number else {
+        return number;
+    };
     if !good_set(seats, sender, set) {
         return Err(Refusal::BadLossSet);
     }

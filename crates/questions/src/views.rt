@@ -1,4 +1,5 @@
-// Views, known sets and losers of an accepted record. 8 is tested first, then 7; 9 is never given.
+// Views, known sets and losers of an accepted record. 8 is tested first, then 7; 9 is never given. That the record is accepted is asked where
+// it is needed: `ask_standing` and `is_place` answer for any farm.
 #![tactic(auto, unfolding(crate::specs::Question::is_place, crate::specs::Question::provided, crate::specs::Question::fits, crate::specs::Question::view_in, crate::specs::Question::known_in, crate::specs::Question::loser_in))]
 
 ghost use Rattle.std.specs.Prelude.{◌≡◌, []};

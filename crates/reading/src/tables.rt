@@ -20,7 +20,7 @@ fn has_room(losses: usize, seats: usize, times: usize, cells: usize, changes: us
         && TABLE_EDITS <= changes
 }
 
-// Entries past the used ones stay, and a refusal changes none.
+// Entries past the used ones stay, and a refusal changes none. The five lists come one by one, as C lends them.
 pub fn read(
     bytes: &[u8],
     losses: &mut [u16],

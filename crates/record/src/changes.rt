@@ -1,4 +1,4 @@
-// A change of height as a number: 2 × d for d ≥ 0, and −2 × d − 1 below.
+// A change of height as a number: 2 × d for d ≥ 0, and −2 × d − 1 below. The mapping is document 01's own.
 ghost use Rattle.std.specs.Prelude.{◌≡◌};
 ghost use Rattle.record.specs.Changes.{mapped, unmapped};
 

@@ -1,5 +1,6 @@
 // Numbers in decimal, shortest, each put at a place of a lent buffer. The answer is the place after it. The kit's `itoa` prints
-// them into a buffer of its own, on the stack.
+// them into a buffer of its own, on the stack. A number with a sign has a function of its own: one for both would speak of the kit's text, and
+// no law of completeness has a type parameter.
 ghost use Rattle.std.specs.Prelude.{◌+◌, ◌≤◌, length};
 ghost use Rattle.text.specs.Digits.{decimal, signed};
 ghost use Rattle.text.specs.Putting.{PutsWithin};

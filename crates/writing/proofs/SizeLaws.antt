@@ -7,10 +7,11 @@ use Rattle.farm.specs.Limits.{limits}
 use Rattle.record.specs.declared.lists.Lists.{Lists}
 use Rattle.record.specs.Header.{header_bytes}
 use Rattle.record.specs.Lengths.{numbers_length, changes_length}
-use Rattle.record.specs.Lent.{tables_in, verdict_on, record_in}
+use Rattle.record.specs.Lent.{tables_in, record_in}
 use Rattle.record.specs.Record.{bytes_of}
-use Rattle.record.specs.Writing.{accepted, header_from}
+use Rattle.record.specs.Writing.{header_from}
 use Rattle.record.proofs.AcceptedLaws.{accepted-header, accepted-sets-few, accepted-parts, accepted-most, accepted-size}
+use Rattle.writing.specs.declared.accepted.Accepted.{Accepted}
 
 pub record Sizes (l : Lists) : Type 0 where
   pub edits : length l.editors.now ≤ 512
@@ -21,11 +22,13 @@ pub record Sizes (l : Lists) : Type 0 where
   pub most : length (bytes_of limits (record_in l)) ≤ 5 + length l.losses.now + 8 * length l.editors.now
   pub whole : length (bytes_of limits (record_in l)) ≤ 4990
 
-pub sizes : (l : Lists) → verdict_on l ≡ accepted → Sizes l
-sizes l v = record {
-  edits = (accepted-header l.seats l.bound l.rounds (tables_in l) v).edits;
-  sets = accepted-sets-few l.seats l.bound l.rounds (tables_in l) v;
-  parts = accepted-parts l.seats l.bound l.rounds (tables_in l) v;
-  most = accepted-most l.seats l.bound l.rounds (tables_in l) v;
-  whole = accepted-size l.seats l.bound l.rounds (tables_in l) v;
-}
+pub sizes : (a : Accepted) → Sizes a.lists
+sizes a =
+    let l = a.lists in
+    record {
+      edits = (accepted-header l.seats l.bound l.rounds (tables_in l) a.good).edits;
+      sets = accepted-sets-few l.seats l.bound l.rounds (tables_in l) a.good;
+      parts = accepted-parts l.seats l.bound l.rounds (tables_in l) a.good;
+      most = accepted-most l.seats l.bound l.rounds (tables_in l) a.good;
+      whole = accepted-size l.seats l.bound l.rounds (tables_in l) a.good;
+    }

@@ -3,10 +3,11 @@ ghost use Rattle.std.specs.Prelude.{◌≡◌, ◌^◌, ◌<◌, leb, length};
 ghost use Rattle.farm.specs.Limits.{limits};
 ghost use Rattle.record.specs.Header.{header_bytes};
 ghost use Rattle.record.specs.Lengths.{numbers_length, changes_length};
-ghost use Rattle.record.specs.Lent.{tables_in, verdict_on, record_in};
+ghost use Rattle.record.specs.Lent.{tables_in, record_in};
 ghost use Rattle.record.specs.Record.{bytes_of};
-ghost use Rattle.record.specs.Writing.{accepted, header_from};
+ghost use Rattle.record.specs.Writing.{header_from};
 
+use crate::accepted::Accepted;
 use numbers::write::number_length;
 use record::changes::map_change;
 use record::lists::Lists;
@@ -40,20 +41,20 @@ fn changes_length(changes: &[i16]) -> usize
 }
 
 // How many bytes accepted lists take. Every loss set, seat and time takes one.
-pub fn accepted_length(lists: Lists) -> usize
-    requires { verdict_on lists ≡ accepted }
-    ensures { result ≡ length (bytes_of limits (record_in lists.entry)) }
+pub fn accepted_length(accepted: Accepted) -> usize
+    ensures { result ≡ length (bytes_of limits (record_in accepted.entry.lists)) }
 {
+    let lists = accepted.lists;
     let single = lists.losses.len() + 2 * lists.editors.len();
     header_length(lists) + single + cells_length(lists.cells) + changes_length(lists.changes)
 }
 
 // Whether accepted lists fit a buffer. The counting is spared where any record of as many sets and edits fits:
 // a header has at most five bytes and an edit at most eight.
-pub fn has_room(room: usize, lists: Lists) -> bool
-    requires { verdict_on lists ≡ accepted }
-    ensures { result ≡ leb (length (bytes_of limits (record_in lists.entry))) room }
+pub fn has_room(room: usize, accepted: Accepted) -> bool
+    ensures { result ≡ leb (length (bytes_of limits (record_in accepted.entry.lists))) room }
 {
+    let lists = accepted.lists;
     let most = 5 + lists.losses.len() + 8 * lists.editors.len();
-    most <= room || accepted_length(lists) <= room
+    most <= room || accepted_length(accepted) <= room
 }

@@ -5,6 +5,7 @@ ghost use Rattle.record.specs.Answers.{written_in};
 ghost use Rattle.record.specs.Lent.{tables_in};
 ghost use Rattle.record.specs.Writing.{needed_by, written_to, buffer_after};
 
+use crate::accepted::Accepted;
 use crate::counting::{accepted_length, has_room};
 use crate::putting::put_record;
 use farm::refusals::Refusal;
@@ -16,7 +17,7 @@ pub fn length(lists: Lists) -> Result<usize, Refusal>
     ensures { result ≡ written_in (needed_by limits lists.entry.seats lists.entry.bound lists.entry.rounds (tables_in lists.entry)) }
 {
     judge(lists)?;
-    Ok(accepted_length(lists))
+    Ok(accepted_length(Accepted { lists }))
 }
 
 // Writes the record that the lists are into the front of the buffer. The bytes past it stay.
@@ -24,8 +25,9 @@ pub fn write(lists: Lists, out: &mut [u8]) -> Result<usize, Refusal>
     ensures { (result ≡ written_in (written_to limits lists.entry.seats lists.entry.bound lists.entry.rounds (tables_in lists.entry) (length out.old))) × (out.new ≡ buffer_after limits lists.entry.seats lists.entry.bound lists.entry.rounds (tables_in lists.entry) out.old) }
 {
     judge(lists)?;
-    if !has_room(out.len(), lists) {
+    let accepted = Accepted { lists };
+    if !has_room(out.len(), accepted) {
         return Err(Refusal::NoRoom);
     }
-    Ok(put_record(out, lists))
+    Ok(put_record(out, accepted))
 }

@@ -5,11 +5,12 @@ ghost use Rattle.farm.specs.Limits.{limits};
 ghost use Rattle.record.specs.Header.{header_bytes};
 ghost use Rattle.record.specs.Losses.{loss_bytes};
 ghost use Rattle.record.specs.Edits.{edit_bytes, edits_bytes};
-ghost use Rattle.record.specs.Lent.{tables_in, verdict_on, record_in};
+ghost use Rattle.record.specs.Lent.{tables_in, record_in};
 ghost use Rattle.record.specs.Record.{bytes_of};
-ghost use Rattle.record.specs.Writing.{accepted, header_from, edits_in};
+ghost use Rattle.record.specs.Writing.{header_from, edits_in};
 ghost use Rattle.numbers.specs.Placing.{Put};
 
+use crate::accepted::Accepted;
 use farm::places::{Seat, Time};
 use numbers::write::put_number;
 use record::changes::map_change;
@@ -67,10 +68,11 @@ fn put_edits(out: &mut [u8], from: usize, lists: Lists) -> usize
 }
 
 // Puts the whole record: header, losses, edits.
-pub fn put_record(out: &mut [u8], lists: Lists) -> usize
-    requires { (verdict_on lists ≡ accepted) × (length (bytes_of limits (record_in lists)) ≤ length out.old) }
-    ensures { Put 0 (bytes_of limits (record_in lists.entry)) out.old result out.new }
+pub fn put_record(out: &mut [u8], accepted: Accepted) -> usize
+    requires { length (bytes_of limits (record_in accepted.lists)) ≤ length out.old }
+    ensures { Put 0 (bytes_of limits (record_in accepted.entry.lists)) out.old result out.new }
 {
+    let lists = accepted.lists;
     let after_header = put_header(out, lists);
     let after_losses = put_losses(out, after_header, lists.losses);
     put_edits(out, after_losses, lists)

@@ -16,8 +16,8 @@ returns-in_err-judge c =
     let up : c.from_residual.result ≡ Err c.in_err-judge.field-0.0 = search rules in
     rw (up, needed-refused limits l.seats l.bound l.rounds (tables_in l) _ (answer-refused _ _ (sym c.in_err-judge.ensures)))
 
-pub accepted_length-requires : goal.accepted_length-requires
-accepted_length-requires c = answer-accepted _ (sym c.in_ok-judge.ensures)
+pub invariant_of-accepted_length : goal.invariant_of-accepted_length
+invariant_of-accepted_length c = record { good = answer-accepted _ (sym c.in_ok-judge.ensures) }
 
 pub returns : goal.returns
 unfolding written_in

@@ -3,7 +3,6 @@
 use mathlib.Core.Path.{◌≡◌, refl, sym, ◌∙◌, ap}
 use native.Mathlib.Nat.{zero-add}
 use borrow.Author.Rules.{rules}
-use borrow.Author.Tests.{leb-true}
 use Rattle.std.specs.Prelude.{Ok, Err}
 use Rattle.record.specs.Answers.{written_in}
 use Rattle.record.specs.Writing.{judged, checked_lists, answered, written_to, buffer_with, buffer_after}
@@ -17,8 +16,8 @@ returns-in_err-judge c =
     let up : c.from_residual.result ≡ Err c.in_err-judge.field-0.0 = search rules in
     rw (up, v) (refl, refl)
 
-pub has_room-requires : goal.has_room-requires
-has_room-requires c = answer-accepted _ (sym c.in_ok-judge.ensures)
+pub invariant_of-accepted : goal.invariant_of-accepted
+invariant_of-accepted c = record { good = answer-accepted _ (sym c.in_ok-judge.ensures) }
 
 pub returns-then-not-has_room : goal.returns-then-not-has_room
 unfolding written_in written_to answered buffer_after buffer_with checked_lists judged
@@ -26,9 +25,6 @@ returns-then-not-has_room c =
     let v = answer-accepted _ (sym c.in_ok-judge.ensures) in
     let small = sym c.has_room.ensures ∙ c.if-not-has_room.true in
     rw (v, small) (refl, refl)
-
-pub put_record-requires : goal.put_record-requires
-put_record-requires c = (answer-accepted _ (sym c.in_ok-judge.ensures), leb-true _ _ (sym c.has_room.ensures ∙ c.if-not-has_room.false))
 
 pub returns : goal.returns
 unfolding written_in written_to answered buffer_after buffer_with checked_lists judged

@@ -9,19 +9,19 @@ use Rattle.writing.proofs.putting.put_record.Goals as goal
 
 pub put_header-after_header-requires : goal.put_header-after_header-requires
 put_header-after_header-requires c =
-    let s = sizes c.args.lists c.requires.0 in
-    (omega arith, header-fits c.args.lists c.args.out.now c.requires.1)
+    let s = sizes c.args.accepted in
+    (omega arith, header-fits c.args.accepted.lists c.args.out.now c.requires)
 
 pub put_losses-after_losses-requires : goal.put_losses-after_losses-requires
-put_losses-after_losses-requires c = losses-fit c.args.lists c.args.out.now c.requires.1 c.put_header-after_header.ensures
+put_losses-after_losses-requires c = losses-fit c.args.accepted.lists c.args.out.now c.requires c.put_header-after_header.ensures
 
 pub put_edits-requires : goal.put_edits-requires
 put_edits-requires c =
-    let l = c.args.lists in (
-      small-edits _ _ _ _ (accepted-cells l.seats l.bound l.rounds (tables_in l) c.requires.0),
-      edits-fit l c.args.out.now c.requires.1 c.put_header-after_header.ensures c.put_losses-after_losses.ensures,
+    let l = c.args.accepted.lists in (
+      small-edits _ _ _ _ (accepted-cells l.seats l.bound l.rounds (tables_in l) c.args.accepted.good),
+      edits-fit l c.args.out.now c.requires c.put_header-after_header.ensures c.put_losses-after_losses.ensures,
     )
 
 pub returns : goal.returns
 returns c =
-    record-put c.args.lists c.args.out.now c.requires.1 c.put_header-after_header.ensures c.put_losses-after_losses.ensures c.put_edits.ensures
+    record-put c.args.accepted.lists c.args.out.now c.requires c.put_header-after_header.ensures c.put_losses-after_losses.ensures c.put_edits.ensures
