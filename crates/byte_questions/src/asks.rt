@@ -15,8 +15,8 @@ pub fn seen(bytes: &[u8], seat: Seat, time: Time) -> Result<Seen, Refusal>
     ensures { result ≡ seen_asked (reading_of bytes.now) seat time }
 {
     let mut room = Room::new();
-    let header = read_places(bytes, &mut room)?;
-    seen_in(header, &room.losses, seat, time)
+    let read = read_places(bytes, &mut room);
+    seen_in(read, &room.losses, seat, time)
 }
 
 // What is agreed at a place: critical time, kept set, steps, the core and how many edits are in it.
@@ -24,8 +24,8 @@ pub fn agreed(bytes: &[u8], seat: Seat, time: Time) -> Result<Agreed, Refusal>
     ensures { result ≡ agreed_asked (reading_of bytes.now) seat time }
 {
     let mut room = Room::new();
-    let header = read_places(bytes, &mut room)?;
-    agreed_in(header, &room.losses, &room.editors, &room.times, seat, time)
+    let read = read_places(bytes, &mut room);
+    agreed_in(read, &room.losses, &room.editors, &room.times, seat, time)
 }
 
 // Whether a seat is a loser of the whole record, or clean.
@@ -33,8 +33,8 @@ pub fn standing(bytes: &[u8], seat: Seat) -> Result<Standing, Refusal>
     ensures { result ≡ standing_answer (loser_asked (reading_of bytes.now) seat) }
 {
     let mut room = Room::new();
-    let header = read_places(bytes, &mut room)?;
-    standing_in(header, &room.losses, seat)
+    let read = read_places(bytes, &mut room);
+    standing_in(read, &room.losses, seat)
 }
 
 // The view of a place, into a lent buffer of at least n numbers.
@@ -42,8 +42,8 @@ pub fn view(bytes: &[u8], seat: Seat, time: Time, out: &mut [i16]) -> Result<(),
     ensures { Fills (λ room. view_asked room (reading_of bytes.now) seat time) out.old result out.new }
 {
     let mut room = Room::new();
-    let header = read_places(bytes, &mut room)?;
-    view_in(header, &room.losses, seat, time, out)
+    let read = read_places(bytes, &mut room);
+    view_in(read, &room.losses, seat, time, out)
 }
 
 // The core of a place, into a lent buffer of at least n numbers.
@@ -51,8 +51,8 @@ pub fn core(bytes: &[u8], seat: Seat, time: Time, out: &mut [i16]) -> Result<(),
     ensures { Fills (λ room. core_asked room (reading_of bytes.now) seat time) out.old result out.new }
 {
     let mut room = Room::new();
-    let header = read_places(bytes, &mut room)?;
-    core_in(header, &room.losses, seat, time, out)
+    let read = read_places(bytes, &mut room);
+    core_in(read, &room.losses, seat, time, out)
 }
 
 // Edit marks into a lent buffer of at least as many bytes as there are edits: 1 in the core, 0 outside.
@@ -60,9 +60,9 @@ pub fn marks(bytes: &[u8], seat: Seat, time: Time, out: &mut [u8]) -> Result<(),
     ensures { Fills (λ room. marks_asked room (reading_of bytes.now) seat time) out.old result out.new }
 {
     let mut room = Room::new();
-    let header = read_places(bytes, &mut room)?;
+    let read = read_places(bytes, &mut room);
     marks_in(
-        header,
+        read,
         &room.losses,
         &room.editors,
         &room.times,

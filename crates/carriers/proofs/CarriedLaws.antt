@@ -40,7 +40,7 @@ use Rattle.questions.specs.Answers.{agreed_from, seen_answer, agreed_answer, giv
 use Rattle.questions.specs.declared.answers.Seen.{Seen}
 use Rattle.questions.specs.declared.answers.Agreed.{Agreed}
 use Rattle.questions.specs.declared.answers.Standing.{Standing}
-use Rattle.carriers.specs.Carried.{Holds, Carried, Fitting, view_for, known_for, core_for, loser_for, agreed_for, marks_for}
+use Rattle.carriers.specs.Carried.{Holds, Carried, Fitting, Loaded, Sized, on_checked, view_for, known_for, core_for, loser_for, agreed_for, marks_for}
 use Rattle.questions.specs.Question.{Asked, found, refused, Lent, by_value, fits, is_place, provided, looking, of_outcome, on_record, farm_of_record, view_in, known_in, loser_in, settled_in, view_asked, known_asked, core_asked, marks_asked, loser_asked, count_of}
 use Rattle.carriers.specs.Loading.{sizes_of, losses_left, seats_left, times_left}
 use Rattle.knowledge.specs.Views.{View, latest_times}
@@ -115,120 +115,65 @@ unfolding agreed_from looking
 agreed-parts n edits (found s) = rw (count-of-edits s.core edits) refl
 agreed-parts n edits (refused r) = refl
 
+module _ {reading : Reading} {checked : Result Header Refusal} {table who when : List ℕ} (c : Carried reading checked table who when) where
+  pub loaded : Loaded checked who when
+  unfolding checked_of
+  loaded h e = by reading refl (sym c.told ∙ e)
+    where
+      by : (r : Reading) → reading ≡ r → checked_of r ≡ Ok h → Fitting h who when
+      by (good w) is f = let same : w.header ≡ h = cc in rw (← same) (fitting w table who when (c.holds w is))
+      by (bad x) is f = absurd cc
+
+  pub sized : Sized checked
+  sized h e = (loaded h e).sizes
+
+  -- One law for every question.
+  on-carried : {A : Type 0} (on : Header → Asked A) (ask : Record → Asked A) → ((w : Record) → Holds w table who when → on w.header ≡ ask w)
+      → on_checked checked on ≡ on_record reading ask
+  unfolding checked_of on_checked on_record
+  on-carried on ask alike = rw c.told (by reading refl)
+    where
+      by : (r : Reading) → reading ≡ r → on_checked (checked_of r) on ≡ on_record r ask
+      by (good w) is = alike w (c.holds w is)
+      by (bad x) is = refl
+
+  module _ (p : Seat) (ℓ : Time) where
+    pub view-carried : (lent : Lent) → view_for lent checked table p ℓ ≡ view_asked lent reading p ℓ
+    view-carried lent = on-carried _ _ (λ w held. view-alike w table who when held lent p ℓ)
+
+    pub seen-carried : seen_answer (view_for by_value checked table p ℓ) (known_for checked table p ℓ) ≡ seen_asked reading p ℓ
+    seen-carried = ap₂ seen_answer (view-carried by_value) (on-carried _ _ (λ w held. known_alike w table who when held p ℓ))
+
+    pub core-carried : (lent : Lent) → core_for lent checked table p ℓ ≡ core_asked lent reading p ℓ
+    unfolding core_in
+    core-carried lent = on-carried _ _ (λ w held. ap (looking _) (settled-alike w table who when held lent _ p ℓ))
+
+    pub marks-carried : (lent : Lent) → marks_for lent checked table who when p ℓ ≡ marks_asked lent reading p ℓ
+    unfolding marks_on
+    marks-carried lent = on-carried _ _ (λ w held.
+        ap (looking _) (settled-alike w table who when held lent _ p ℓ)
+        ∙ marks-asked w _ _ (sym held.seats) (sym held.times) p ℓ lent)
+
+    pub agreed-carried : agreed_for checked table who when p ℓ ≡ agreed_asked reading p ℓ
+    unfolding checked_of agreed_for on_record settled_in fits
+    agreed-carried = rw c.told (by reading refl)
+      where
+        by : (r : Reading) → reading ≡ r → agreed_for (checked_of r) table who when p ℓ ≡ agreed_asked r p ℓ
+        by (good w) is =
+            let held = c.holds w is in
+            rw (held.seats, held.times, settled-alike w table who when held by_value 0 p ℓ) (agreed-parts w.header.seats w.edits _)
+        by (bad x) is = refl
+
+  pub standing-carried : (p : Seat) → loser_for checked table p ≡ loser_asked reading p
+  standing-carried p = on-carried _ _ (λ w held. loser-alike w table who when held p)
+
 -- Into a buffer: questions alike leave the same.
-fills_alike : {A : Type 0} {on asked : Lent → Asked (List A)} {old new : List A} {answer : Result (Unit {0}) Refusal}
-    → ((room : Lent) → on room ≡ asked room) → Fills on old answer new → Fills asked old answer new
+pub fills_alike : {A : Type 0} {on asked : Lent → Asked (List A)} {old new : List A} {answer : Result (Unit {0}) Refusal} → ((room : Lent) → on room ≡ asked room)
+    → Fills on old answer new → Fills asked old answer new
 fills_alike {old = old} e f = record {
   answered = f.answered ∙ ap given_answer (e _);
   left = f.left ∙ ap (λ (a : Asked (List _)). into a old) (e _);
 }
-
--- The carrier hands a header on: the question on it is the question on what is read.
-module _ {reading : Reading} {h : Header} {table who when : List ℕ} (c : Carried reading (Ok h) table who when) where
-  -- One law for every question: what is so of a good record that the lists hold is so of the header and what is read.
-  so-carried : (P : Header → Reading → Type 0) → ((w : Record) → Holds w table who when → P w.header (good w)) → P h reading
-  unfolding checked_of
-  so-carried P so = by reading refl c.told
-    where
-      by : (r : Reading) → reading ≡ r → Ok h ≡ checked_of r → P h r
-      by (good w) is e = let same : w.header ≡ h = cc in rw (← same) (so w (c.holds w is))
-      by (bad x) is e = absurd cc
-
-  pub loaded : Fitting h who when
-  loaded = so-carried (λ k r. Fitting k who when) (λ w held. fitting w table who when held)
-
-  pub sized : Accepted (sizes_of h)
-  sized = loaded.sizes
-
-  module _ (p : Seat) (ℓ : Time) where
-    view-told : (lent : Lent) → view_for lent h table p ℓ ≡ view_asked lent reading p ℓ
-    unfolding on_record
-    view-told lent =
-        so-carried (λ k r. view_for lent k table p ℓ ≡ view_asked lent r p ℓ) (λ w held. view-alike w table who when held lent p ℓ)
-
-    known-told : known_for h table p ℓ ≡ known_asked reading p ℓ
-    unfolding on_record
-    known-told = so-carried (λ k r. known_for k table p ℓ ≡ known_asked r p ℓ) (λ w held. known_alike w table who when held p ℓ)
-
-    core-told : (lent : Lent) → core_for lent h table p ℓ ≡ core_asked lent reading p ℓ
-    unfolding on_record core_in
-    core-told lent =
-        so-carried (λ k r. core_for lent k table p ℓ ≡ core_asked lent r p ℓ)
-        (λ w held. ap (looking _) (settled-alike w table who when held lent _ p ℓ))
-
-    marks-told : (lent : Lent) → marks_for lent h table who when p ℓ ≡ marks_asked lent reading p ℓ
-    unfolding on_record marks_on
-    marks-told lent =
-        so-carried (λ k r. marks_for lent k table who when p ℓ ≡ marks_asked lent r p ℓ)
-        (λ w held.
-        ap (looking _) (settled-alike w table who when held lent _ p ℓ)
-        ∙ marks-asked w _ _ (sym held.seats) (sym held.times) p ℓ lent)
-
-    agreed-told : agreed_for h table who when p ℓ ≡ agreed_asked reading p ℓ
-    unfolding on_record settled_in fits
-    agreed-told =
-        so-carried (λ k r. agreed_for k table who when p ℓ ≡ agreed_asked r p ℓ)
-        (λ w held. rw (held.seats, held.times, settled-alike w table who when held by_value 0 p ℓ) (agreed-parts w.header.seats w.edits _))
-
-    pub seen-carried : {r : Result Seen Refusal} → r ≡ seen_answer (view_for by_value h table p ℓ) (known_for h table p ℓ) → r ≡ seen_asked reading p ℓ
-    seen-carried e = e ∙ ap₂ seen_answer (view-told by_value) known-told
-
-    pub agreed-carried : {r : Result Agreed Refusal} → r ≡ agreed_for h table who when p ℓ → r ≡ agreed_asked reading p ℓ
-    agreed-carried e = e ∙ agreed-told
-
-    pub view-carried : {old new : List ℤ} {r : Result (Unit {0}) Refusal} → Fills (λ room. view_for room h table p ℓ) old r new
-        → Fills (λ room. view_asked room reading p ℓ) old r new
-    view-carried f = fills_alike view-told f
-
-    pub core-carried : {old new : List ℤ} {r : Result (Unit {0}) Refusal} → Fills (λ room. core_for room h table p ℓ) old r new
-        → Fills (λ room. core_asked room reading p ℓ) old r new
-    core-carried f = fills_alike core-told f
-
-    pub marks-carried : {old new : List ℕ} {r : Result (Unit {0}) Refusal} → Fills (λ room. marks_for room h table who when p ℓ) old r new
-        → Fills (λ room. marks_asked room reading p ℓ) old r new
-    marks-carried f = fills_alike marks-told f
-
-  pub standing-carried : (p : Seat) {r : Result Standing Refusal} → r ≡ standing_answer (loser_for h table p) → r ≡ standing_answer (loser_asked reading p)
-  unfolding on_record
-  standing-carried p e =
-      e
-      ∙ so-carried (λ k r. standing_answer (loser_for k table p) ≡ standing_answer (loser_asked r p))
-      (λ w held. ap standing_answer (loser-alike w table who when held p))
-
--- The carrier is refused, and the caller hands the refusal up: that is what every question on what is read answers.
-module _ {reading : Reading} {x : Refusal} {table who when : List ℕ} (c : Carried reading (Err x) table who when) where
-  the-refusal : reading ≡ bad x
-  unfolding checked_of
-  the-refusal = by reading c.told
-    where
-      by : (r : Reading) → Err x ≡ checked_of r → r ≡ bad x
-      by (good w) e = absurd cc
-      by (bad y) e = let same : y ≡ x = cc in ap bad same
-
-  module _ (p : Seat) (ℓ : Time) where
-    pub seen-refused : (r : Result Seen Refusal) → IsErrAnd r (λ y. y ≡ x) → r ≡ seen_asked reading p ℓ
-    unfolding on_record
-    seen-refused r e = rw the-refusal (handed_up r x e)
-
-    pub agreed-refused : (r : Result Agreed Refusal) → IsErrAnd r (λ y. y ≡ x) → r ≡ agreed_asked reading p ℓ
-    unfolding on_record
-    agreed-refused r e = rw the-refusal (handed_up r x e)
-
-    pub view-refused : (old : List ℤ) (r : Result (Unit {0}) Refusal) → IsErrAnd r (λ y. y ≡ x) → Fills (λ room. view_asked room reading p ℓ) old r old
-    unfolding on_record
-    view-refused old r e = rw (the-refusal, handed_up r x e) (record { answered = refl; left = refl })
-
-    pub core-refused : (old : List ℤ) (r : Result (Unit {0}) Refusal) → IsErrAnd r (λ y. y ≡ x) → Fills (λ room. core_asked room reading p ℓ) old r old
-    unfolding on_record
-    core-refused old r e = rw (the-refusal, handed_up r x e) (record { answered = refl; left = refl })
-
-    pub marks-refused : (old : List ℕ) (r : Result (Unit {0}) Refusal) → IsErrAnd r (λ y. y ≡ x) → Fills (λ room. marks_asked room reading p ℓ) old r old
-    unfolding on_record
-    marks-refused old r e = rw (the-refusal, handed_up r x e) (record { answered = refl; left = refl })
-
-  pub standing-refused : (p : Seat) (r : Result Standing Refusal) → IsErrAnd r (λ y. y ≡ x) → r ≡ standing_answer (loser_asked reading p)
-  unfolding on_record
-  standing-refused p r e = rw the-refusal (handed_up r x e)
 
 -- ════ The carriers ════
 

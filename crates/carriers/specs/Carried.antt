@@ -1,6 +1,6 @@
 -- What a carrier hands on: whether the record is good, with its header, and the losses and the edits' seats and times at the front of
 -- lists that may be longer; and the questions on a good record's header and such lists.
-use Rattle.std.specs.Prelude.{List, ℕ, ◌*◌, ◌≤◌, ℤ, length, take, ◌≡◌, Bool, true, Result}
+use Rattle.std.specs.Prelude.{List, ℕ, ◌*◌, ◌≤◌, ℤ, length, take, ◌≡◌, Bool, true, Result, Ok, Err}
 use Rattle.farm.specs.Limits.{limits}
 use Rattle.farm.specs.Sets.{Seats}
 use Rattle.farm.specs.declared.places.Seat.{Seat}
@@ -15,7 +15,7 @@ use Rattle.record.specs.Tables.{seats_of, times_of}
 use Rattle.questions.specs.declared.answers.Agreed.{Agreed}
 use Rattle.questions.specs.Accepted.{Accepted, core_in, marks_on}
 use Rattle.questions.specs.Answers.{agreed_from}
-use Rattle.questions.specs.Question.{Asked, Lent, by_value, view_in, known_in, loser_in, settled_in}
+use Rattle.questions.specs.Question.{Asked, refused, Lent, by_value, view_in, known_in, loser_in, settled_in}
 use Rattle.carriers.specs.Loading.{sizes_of}
 
 -- The lists hold a good record's losses and edits at their front.
@@ -36,24 +36,33 @@ pub record Fitting (h : Header) (who when : List ℕ) : Type 0 where
   pub seats : h.edits ≤ length who
   pub times : h.edits ≤ length when
 
--- ════ Questions ════
+abbrev pub Loaded : Result Header Refusal → (seats times : List ℕ) → Type 0
+Loaded checked seats times = (h : Header) → checked ≡ Ok h → Fitting h seats times
 
-abbrev pub view_for : Lent → Header → List Seats → Seat → Time → Asked (List ℤ)
-view_for lent h losses p ℓ = view_in lent (farm_for (sizes_of h) losses) p ℓ
+unfoldable pub on_checked : {A : Type 0} → Result Header Refusal → (Header → Asked A) → Asked A
+on_checked (Ok h) ask = ask h
+on_checked (Err x) ask = refused x
 
-abbrev pub known_for : Header → List Seats → Seat → Time → Asked Seats
-known_for h losses p ℓ = known_in (farm_for (sizes_of h) losses) p ℓ
+abbrev pub Sized : Result Header Refusal → Type 0
+Sized checked = (h : Header) → checked ≡ Ok h → Accepted (sizes_of h)
 
-abbrev pub core_for : Lent → Header → List Seats → Seat → Time → Asked (List ℤ)
-core_for lent h losses p ℓ = core_in lent (farm_for (sizes_of h) losses) p ℓ
+abbrev pub view_for : Lent → Result Header Refusal → List Seats → Seat → Time → Asked (List ℤ)
+view_for lent checked losses p ℓ = on_checked checked (λ h. view_in lent (farm_for (sizes_of h) losses) p ℓ)
 
-abbrev pub loser_for : Header → List Seats → Seat → Asked Bool
-loser_for h losses p = loser_in (farm_for (sizes_of h) losses) p
+abbrev pub known_for : Result Header Refusal → List Seats → Seat → Time → Asked Seats
+known_for checked losses p ℓ = on_checked checked (λ h. known_in (farm_for (sizes_of h) losses) p ℓ)
 
-abbrev pub agreed_for : Header → (losses : List Seats) (seats times : List ℕ) → Seat → Time → Result Agreed Refusal
-agreed_for h losses seats times p ℓ =
+abbrev pub core_for : Lent → Result Header Refusal → List Seats → Seat → Time → Asked (List ℤ)
+core_for lent checked losses p ℓ = on_checked checked (λ h. core_in lent (farm_for (sizes_of h) losses) p ℓ)
+
+abbrev pub loser_for : Result Header Refusal → List Seats → Seat → Asked Bool
+loser_for checked losses p = on_checked checked (λ h. loser_in (farm_for (sizes_of h) losses) p)
+
+unfoldable pub agreed_for : Result Header Refusal → (losses : List Seats) (seats times : List ℕ) → Seat → Time → Result Agreed Refusal
+agreed_for (Ok h) losses seats times p ℓ =
     agreed_from h.seats (take h.edits seats) (take h.edits times) (settled_in by_value 0 (farm_for (sizes_of h) losses) p ℓ)
+agreed_for (Err x) losses seats times p ℓ = Err x
 
-abbrev pub marks_for : Lent → Header → (losses : List Seats) (seats times : List ℕ) → Seat → Time → Asked (List ℕ)
-marks_for lent h losses seats times p ℓ =
-    marks_on lent (farm_for (sizes_of h) losses) (take h.edits seats) (take h.edits times) p ℓ
+abbrev pub marks_for : Lent → Result Header Refusal → (losses : List Seats) (seats times : List ℕ) → Seat → Time → Asked (List ℕ)
+marks_for lent checked losses seats times p ℓ =
+    on_checked checked (λ h. marks_on lent (farm_for (sizes_of h) losses) (take h.edits seats) (take h.edits times) p ℓ)

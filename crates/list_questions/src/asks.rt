@@ -16,49 +16,50 @@ use record::lists::Lists;
 pub fn seen(lists: Lists, seat: Seat, time: Time) -> Result<Seen, Refusal>
     ensures { result ≡ seen_asked (reading_in lists.entry) seat time }
 {
-    let header = check_lists(lists)?;
-    seen_in(header, lists.losses, seat, time)
+    seen_in(check_lists(lists), lists.losses, seat, time)
 }
 
 // What is agreed at a place: critical time, kept set, steps, the core and how many edits are in it.
 pub fn agreed(lists: Lists, seat: Seat, time: Time) -> Result<Agreed, Refusal>
     ensures { result ≡ agreed_asked (reading_in lists.entry) seat time }
 {
-    let header = check_lists(lists)?;
-    agreed_in(header, lists.losses, lists.editors, lists.times, seat, time)
+    agreed_in(
+        check_lists(lists),
+        lists.losses,
+        lists.editors,
+        lists.times,
+        seat,
+        time,
+    )
 }
 
 // Whether a seat is a loser of the whole record, or clean.
 pub fn standing(lists: Lists, seat: Seat) -> Result<Standing, Refusal>
     ensures { result ≡ standing_answer (loser_asked (reading_in lists.entry) seat) }
 {
-    let header = check_lists(lists)?;
-    standing_in(header, lists.losses, seat)
+    standing_in(check_lists(lists), lists.losses, seat)
 }
 
 // The view of a place, into a lent buffer of at least n numbers.
 pub fn view(lists: Lists, seat: Seat, time: Time, out: &mut [i16]) -> Result<(), Refusal>
     ensures { Fills (λ room. view_asked room (reading_in lists.entry) seat time) out.old result out.new }
 {
-    let header = check_lists(lists)?;
-    view_in(header, lists.losses, seat, time, out)
+    view_in(check_lists(lists), lists.losses, seat, time, out)
 }
 
 // The core of a place, into a lent buffer of at least n numbers.
 pub fn core(lists: Lists, seat: Seat, time: Time, out: &mut [i16]) -> Result<(), Refusal>
     ensures { Fills (λ room. core_asked room (reading_in lists.entry) seat time) out.old result out.new }
 {
-    let header = check_lists(lists)?;
-    core_in(header, lists.losses, seat, time, out)
+    core_in(check_lists(lists), lists.losses, seat, time, out)
 }
 
 // Edit marks into a lent buffer of at least as many bytes as there are edits: 1 in the core, 0 outside.
 pub fn marks(lists: Lists, seat: Seat, time: Time, out: &mut [u8]) -> Result<(), Refusal>
     ensures { Fills (λ room. marks_asked room (reading_in lists.entry) seat time) out.old result out.new }
 {
-    let header = check_lists(lists)?;
     marks_in(
-        header,
+        check_lists(lists),
         lists.losses,
         lists.editors,
         lists.times,

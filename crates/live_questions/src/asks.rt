@@ -22,17 +22,15 @@ use writing::lists::write;
 pub fn seen(table: &Table, seat: Seat, time: Time) -> Result<Seen, Refusal>
     ensures { result ≡ seen_asked (table_reading table.now) seat time }
 {
-    let header = check_table(table)?;
-    seen_in(header, &table.losses, seat, time)
+    seen_in(check_table(table), &table.losses, seat, time)
 }
 
 // What is agreed at a place: critical time, kept set, steps, the core and how many edits are in it.
 pub fn agreed(table: &Table, seat: Seat, time: Time) -> Result<Agreed, Refusal>
     ensures { result ≡ agreed_asked (table_reading table.now) seat time }
 {
-    let header = check_table(table)?;
     agreed_in(
-        header,
+        check_table(table),
         &table.losses,
         &table.editors,
         &table.times,
@@ -45,33 +43,29 @@ pub fn agreed(table: &Table, seat: Seat, time: Time) -> Result<Agreed, Refusal>
 pub fn standing(table: &Table, seat: Seat) -> Result<Standing, Refusal>
     ensures { result ≡ standing_answer (loser_asked (table_reading table.now) seat) }
 {
-    let header = check_table(table)?;
-    standing_in(header, &table.losses, seat)
+    standing_in(check_table(table), &table.losses, seat)
 }
 
 // The view of a place, into a lent buffer of at least n numbers.
 pub fn view(table: &Table, seat: Seat, time: Time, out: &mut [i16]) -> Result<(), Refusal>
     ensures { Fills (λ room. view_asked room (table_reading table.now) seat time) out.old result out.new }
 {
-    let header = check_table(table)?;
-    view_in(header, &table.losses, seat, time, out)
+    view_in(check_table(table), &table.losses, seat, time, out)
 }
 
 // The core of a place, into a lent buffer of at least n numbers.
 pub fn core(table: &Table, seat: Seat, time: Time, out: &mut [i16]) -> Result<(), Refusal>
     ensures { Fills (λ room. core_asked room (table_reading table.now) seat time) out.old result out.new }
 {
-    let header = check_table(table)?;
-    core_in(header, &table.losses, seat, time, out)
+    core_in(check_table(table), &table.losses, seat, time, out)
 }
 
 // Edit marks into a lent buffer of at least as many bytes as there are edits: 1 in the core, 0 outside.
 pub fn marks(table: &Table, seat: Seat, time: Time, out: &mut [u8]) -> Result<(), Refusal>
     ensures { Fills (λ room. marks_asked room (table_reading table.now) seat time) out.old result out.new }
 {
-    let header = check_table(table)?;
     marks_in(
-        header,
+        check_table(table),
         &table.losses,
         &table.editors,
         &table.times,
