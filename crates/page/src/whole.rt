@@ -26,6 +26,8 @@ fn put_page(losses: &[u16], editors: &[u8], times: &[u16], header: Header, out: 
     requires { Holds header losses.now editors.now times.now × (page_room ≤ length out.old) }
     ensures { PutsWithin page_room (page_held header losses.now editors.now times.now) 0 out.old out.new result }
 {
+    // The farm and the places of its edits are made here as in `carriers`, cut to the used part; live_table/src/sound.rt says why no public
+    // function hands them out.
     let sets = header.seats as usize * header.rounds as usize;
     let held = header.edits as usize;
     let farm = Farm {
