@@ -3,16 +3,11 @@
 use mathlib.Core.Path.{sym, ◌∙◌}
 use native.Mathlib.Omega.{arith}
 use borrow.Author.Tests.{leb-true}
-use Rattle.lines.specs.Lines.{refused_line}
 use Rattle.text.specs.Words.{ascii, newline}
 use Rattle.lines.proofs.LineLaws.{refused-text}
-use Rattle.lines.proofs.PrintLaws.{prints, prints-nothing}
+use Rattle.lines.proofs.PrintLaws.{prints}
 use Rattle.text.proofs.PutLaws.{puts-byte, then-told}
 use Rattle.lines.proofs.printing.refused_line.Goals as goal
-
-pub returns-then-not-has_room : goal.returns-then-not-has_room
-returns-then-not-has_room c =
-    prints-nothing (refused_line c.args.number) 0 c.args.out.now (sym c.has_room.ensures ∙ c.if-not-has_room.true)
 
 pub returns : goal.returns
 unfolding ascii

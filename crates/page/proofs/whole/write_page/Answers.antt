@@ -14,6 +14,7 @@ pub returns-then-out-lt-PAGE_ROOM : goal.returns-then-out-lt-PAGE_ROOM
 returns-then-out-lt-PAGE_ROOM c = page-nowhere _ c.args.out.now (omega arith)
 
 -- The tables hold a good record, and its page is the page of what they hold.
+
 good : (c : In-Ok) → Holds c.in-Ok.header c.read-checked.new.losses c.read-checked.new.seats c.read-checked.new.times
     × (page_held c.in-Ok.header c.read-checked.new.losses c.read-checked.new.seats c.read-checked.new.times ≡ page_of (reading_of c.args.bytes.now))
 good c =
