@@ -8,7 +8,7 @@ use farm::refusals::Refusal;
 use reading::tables::read;
 use record::header::Header;
 
-// Room for the loss sets of any record, and for the seats and times of its edits.
+// Room for the loss sets of any record, and for the seats and times of its edits. The page has such room once, in place.
 #[derive(Clone, Copy)]
 pub struct Room {
     pub losses: [u16; TABLE_LOSS_SETS],

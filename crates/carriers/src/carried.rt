@@ -1,5 +1,5 @@
 // The questions on what a carrier hands on: the record's refusal, or the header of an accepted record, with its loss sets and the places
-// of its edits at the front of lists that may be longer.
+// of its edits at the front of lists that may be longer. They come one by one, as they lie in a table, in lists or in a room.
 #![tactic(auto, using(record::proofs::RefusalLaws::handed_up), unfolding(crate::specs::Carried::on_checked))]
 
 ghost use Rattle.std.specs.Prelude.{◌≡◌, take};
@@ -21,6 +21,7 @@ use telling::edit_places::EditPlaces;
 use viewing::farms::Farm;
 use viewing::sizes::Sizes;
 
+// The sizes are written out here and in `page`: the crates of `Header` and of `Sizes` do not know each other, and no third may write a `From`.
 fn farm_of<'a>(header: Header, losses: &'a [u16]) -> Farm<'a>
     ensures { (result.sizes ≡ sizes_of header) × (result.losses.now ≡ losses.now) }
 {

@@ -1,4 +1,4 @@
-// What a question answers where it is not refused. The meaning of each case stands in specs/Answers.antt.
+// What a question answers where it is not refused. The meaning of each case stands in specs/Answers.antt. Times by value are seven, as C has them.
 
 // What the construction settles, beside the core: critical time, kept set and count of steps.
 #[derive(Clone, Copy)]

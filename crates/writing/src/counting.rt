@@ -20,6 +20,7 @@ fn header_length(lists: Lists) -> usize
     first + number_length(lists.rounds as u32) + number_length(lists.editors.len() as u32)
 }
 
+// A cell is written as it is, a change as the number that it maps to: a loop for each says so with no more words than one for both.
 fn cells_length(cells: &[u32]) -> usize
     ensures { result ≡ numbers_length limits cells.now }
 {
