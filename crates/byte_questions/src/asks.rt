@@ -4,7 +4,7 @@ ghost use Rattle.record.specs.Document.{reading_of};
 ghost use Rattle.questions.specs.Question.{view_asked, core_asked, marks_asked, loser_asked};
 ghost use Rattle.questions.specs.Answers.{Fills, standing_answer, seen_asked, agreed_asked};
 
-use crate::loading::{Room, read_places};
+use crate::loading::{EMPTY, read_places};
 use carriers::carried::{agreed_in, core_in, marks_in, seen_in, standing_in, view_in};
 use farm::places::{Seat, Time};
 use farm::refusals::Refusal;
@@ -14,7 +14,7 @@ use questions::answers::{Agreed, Seen, Standing};
 pub fn seen(bytes: &[u8], seat: Seat, time: Time) -> Result<Seen, Refusal>
     ensures { result ≡ seen_asked (reading_of bytes.now) seat time }
 {
-    let mut room = Room::new();
+    let mut room = EMPTY;
     let read = read_places(bytes, &mut room);
     seen_in(read, &room.losses, seat, time)
 }
@@ -23,7 +23,7 @@ pub fn seen(bytes: &[u8], seat: Seat, time: Time) -> Result<Seen, Refusal>
 pub fn agreed(bytes: &[u8], seat: Seat, time: Time) -> Result<Agreed, Refusal>
     ensures { result ≡ agreed_asked (reading_of bytes.now) seat time }
 {
-    let mut room = Room::new();
+    let mut room = EMPTY;
     let read = read_places(bytes, &mut room);
     agreed_in(read, &room.losses, &room.editors, &room.times, seat, time)
 }
@@ -32,7 +32,7 @@ pub fn agreed(bytes: &[u8], seat: Seat, time: Time) -> Result<Agreed, Refusal>
 pub fn standing(bytes: &[u8], seat: Seat) -> Result<Standing, Refusal>
     ensures { result ≡ standing_answer (loser_asked (reading_of bytes.now) seat) }
 {
-    let mut room = Room::new();
+    let mut room = EMPTY;
     let read = read_places(bytes, &mut room);
     standing_in(read, &room.losses, seat)
 }
@@ -41,7 +41,7 @@ pub fn standing(bytes: &[u8], seat: Seat) -> Result<Standing, Refusal>
 pub fn view(bytes: &[u8], seat: Seat, time: Time, out: &mut [i16]) -> Result<(), Refusal>
     ensures { Fills (λ room. view_asked room (reading_of bytes.now) seat time) out.old result out.new }
 {
-    let mut room = Room::new();
+    let mut room = EMPTY;
     let read = read_places(bytes, &mut room);
     view_in(read, &room.losses, seat, time, out)
 }
@@ -50,7 +50,7 @@ pub fn view(bytes: &[u8], seat: Seat, time: Time, out: &mut [i16]) -> Result<(),
 pub fn core(bytes: &[u8], seat: Seat, time: Time, out: &mut [i16]) -> Result<(), Refusal>
     ensures { Fills (λ room. core_asked room (reading_of bytes.now) seat time) out.old result out.new }
 {
-    let mut room = Room::new();
+    let mut room = EMPTY;
     let read = read_places(bytes, &mut room);
     core_in(read, &room.losses, seat, time, out)
 }
@@ -59,7 +59,7 @@ pub fn core(bytes: &[u8], seat: Seat, time: Time, out: &mut [i16]) -> Result<(),
 pub fn marks(bytes: &[u8], seat: Seat, time: Time, out: &mut [u8]) -> Result<(), Refusal>
     ensures { Fills (λ room. marks_asked room (reading_of bytes.now) seat time) out.old result out.new }
 {
-    let mut room = Room::new();
+    let mut room = EMPTY;
     let read = read_places(bytes, &mut room);
     marks_in(
         read,

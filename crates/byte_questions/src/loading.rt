@@ -16,15 +16,12 @@ pub struct Room {
     pub times: [u16; TABLE_EDITS],
 }
 
-impl Room {
-    pub fn new() -> Room {
-        Room {
-            losses: [0; TABLE_LOSS_SETS],
-            editors: [0; TABLE_EDITS],
-            times: [0; TABLE_EDITS],
-        }
-    }
-}
+// Room that nothing was read into.
+pub const EMPTY: Room = Room {
+    losses: [0; TABLE_LOSS_SETS],
+    editors: [0; TABLE_EDITS],
+    times: [0; TABLE_EDITS],
+};
 
 // The loss sets, and the seats and times of the edits.
 pub fn read_places(bytes: &[u8], room: &mut Room) -> Result<Header, Refusal>

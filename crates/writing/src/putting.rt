@@ -48,6 +48,7 @@ fn put_edit(out: &mut [u8], at: usize, edit: Edit) -> usize
     put_number(out, after_cell, map_change(edit.change) as u32)
 }
 
+// The four lists are walked as in `judge_edits`: a function that handed the walk out would have a result whose type is longer than the walk.
 fn put_edits(out: &mut [u8], from: usize, lists: Lists) -> usize
     requires { All (λ edit. edit.cell < 128 ^ 3) (edits_in (tables_in lists)) × (from + length (edits_bytes limits (edits_in (tables_in lists))) ≤ length out.old) }
     ensures { Put from (edits_bytes limits (edits_in (tables_in lists.entry))) out.old result out.new }
