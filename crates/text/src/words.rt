@@ -6,7 +6,8 @@ pub fn put_word(out: &mut [u8], at: usize, word: &[u8]) -> usize
     requires { at + length word.now ≤ length out.old }
     ensures { Puts word.now at out.old out.new result }
 {
-    let end = at + word.len();
-    out[at..end].copy_from_slice(word);
-    end
+    for byte in 0..word.len() {
+        out[at + byte] = word[byte];
+    }
+    at + word.len()
 }

@@ -1,13 +1,21 @@
--- `text::words::put_word` meets its contract: the part of the buffer that the word takes is the word. Assumes nothing.
-use Rattle.std.proofs.Common.{◌≡◌, refl, ◌∙◌, ◌-◌, ◌+◌, length, arith}
-use Rattle.std.proofs.lemmas.Slice.{put_mid-paste}
-use lib.Seq.{take-length}
+-- `text::words::put_word` meets its contract: each byte is pasted behind those before it. Assumes nothing.
+use mathlib.Core.Path.{◌≡◌, refl, ◌∙◌}
+use native.Mathlib.Numerals.{add-one}
+use native.Mathlib.Omega.{arith}
+use lib.ListN.{length, length-set}
+use lib.Seq.{paste-suc, take-length}
 use Rattle.text.specs.Putting.{written}
 use Rattle.text.proofs.words.put_word.Goals as goal
+
+pub loop-byte-preserved : goal.loop-byte-preserved
+loop-byte-preserved c =
+    let a = c.args in (
+      simp length-set c.loop-byte.invariant.0,
+      rw (c.loop-byte.invariant.1, add-one) (paste-suc a.out.now a.at a.word.now c.loop-byte.byte 0 (omega arith) (omega arith)),
+    )
 
 pub returns : goal.returns
 unfolding written
 returns c =
-    let a = c.args in
-    let many : (a.at + length a.word.now) - a.at ≡ length a.word.now = omega arith in
-    record { end = refl; bytes = put_mid-paste a.at _ a.out.now _ a.word.now _ c.copy_from_slice.ensures.after refl many ∙ rw (many, take-length) refl }
+    let all : c.loop-byte.byte ≡ length c.args.word.now = omega arith in
+    record { end = refl; bytes = c.loop-byte.invariant.1 ∙ rw (all, take-length) refl }
