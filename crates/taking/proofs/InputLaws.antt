@@ -26,6 +26,9 @@ unfolding next_of
 more taken zero e some room = absurd (some refl)
 more taken (suc n) e some room = rw (e, lt-ltb (taken + suc n) input_room (omega (arith, room-is))) refl
 
+-- By these the check proves what follows each answer of `read` by itself.
+pub ruleset read_steps = (room-is, failed, over, more)
+
 -- ════ How many bytes are taken then ════
 
 module _ (taken : ℕ) (room : taken ≤ input_room) where

@@ -10,6 +10,7 @@ pub const TAKEN: usize = 4_991;
 
 // What follows where `read` was lent the part of the buffer behind the bytes taken, and answered so: another read, with so many
 // bytes taken, or the end of the taking, with so many bytes at the front of the buffer. A failure is handed up.
+#[tactic(auto, using(crate::proofs::InputLaws::read_steps))]
 pub fn after_read(taken: usize, got: io::Result<usize>) -> io::Result<ControlFlow<usize, usize>>
     requires { Within (input_room - taken) got }
     ensures { result ≡ next_of taken got }
