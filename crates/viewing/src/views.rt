@@ -38,7 +38,7 @@ pub struct Views {
 fn larger(count: u16, joins: bool, other: u16) -> u16
     ensures { result ≡ max count (cond joins other 0) }
 {
-    if joins { count.max(other) } else { count }
+    count.max(if joins { other } else { 0 })
 }
 
 // The count of one seat in the joined views of a set of seats.
