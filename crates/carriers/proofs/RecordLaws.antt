@@ -121,6 +121,10 @@ module _ (bytes : List ℕ) (h : Header) (w : Read bytes h) where
       rw (e, w.is, ← w.header)
       (take-over (times_of w.what.edits) old _ (length-times w.what.edits ∙ (record-facts limits w.what w.sound).edit_count))
 
+pub listed-few : (bytes : List ℕ) (h : Header) (w : Read bytes h) (seats : List ℕ) → seats ≡ seats_of w.what.edits → length seats ≤ 512
+listed-few bytes h w seats e =
+    rw (e, length-seats w.what.edits, (record-facts limits w.what w.sound).edit_count) (few-edits w.what w.sound)
+
 -- What reading into tables with room leaves in those that a question looks at.
 losses-same : (reading : Reading) (t : Tables) → (tables_after reading t).losses ≡ losses_left reading t.losses
 unfolding tables_after losses_left

@@ -1,11 +1,13 @@
 -- The page of a record that was read into tables, and what is left in the buffer. Assumes nothing.
 use mathlib.Core.Path.{◌≡◌, refl, sym, ◌∙◌, ap, fun_ext}
+use mathlib.Core.Bool.{Bool, true, false}
 use mathlib.Core.List.{List, ◌++◌}
 use Prim.Native.Nat.{ℕ, suc, ◌*◌, ◌<◌, ◌≤◌}
 use native.Mathlib.Nat.{zero-add}
 use native.Mathlib.Omega.{arith}
+use lib.Dec.{leb}
 use lib.ListN.{length, take}
-use borrow.Author.Tests.{le-leb, lt-leb}
+use borrow.Author.Tests.{le-leb, lt-leb, leb-true}
 use Rattle.farm.specs.Refusals.{number_of}
 use Rattle.farm.specs.declared.refusals.Refusal.{Refusal}
 use Rattle.farm.specs.declared.refusals.Refusal.TheVariants.{NoRoom}
@@ -128,3 +130,19 @@ page-printed {text} {old = old} room same p =
     let short = p.short line in
     rw (← same)
     (record { answered = rw fits ((rw line at p.answered) ∙ ap Ok (zero-add (length text))); bytes = rw fits (rw line at p.bytes); short = λ t. omega arith })
+
+-- What was written lies within the buffer: what a program that hands it on asks for.
+pub page-within : (page : Text) (old new : List ℕ) (answer : Result ℕ Refusal) (end : ℕ) → PrintsPage page old new answer → answer ≡ Ok end
+    → end ≤ length old
+page-within page old new answer end p e = by (leb page_room (length old)) refl
+  where
+    by : (b : Bool) → leb page_room (length old) ≡ b → end ≤ length old
+    by true fits =
+        let is : answer ≡ Ok (length page) = rw fits at p.answered in
+        let ends : end ≡ length page = cc in
+        let short = p.short fits in
+        let room = leb-true page_room (length old) fits in
+        omega arith
+    by false none =
+        let is : answer ≡ Err NoRoom = rw none at p.answered in
+        absurd cc

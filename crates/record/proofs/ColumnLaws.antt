@@ -3,17 +3,17 @@
 use mathlib.Core.Path.{◌≡◌, refl, ◌∙◌, ap}
 use mathlib.Core.Bool.{Bool, true, false, cond}
 use mathlib.Core.List.{List, [], ◌∷◌}
-use Prim.Native.Nat.{ℕ, suc}
-use native.Mathlib.Nat.{zero-add}
+use Prim.Native.Nat.{ℕ, zero, suc, ◌<◌}
+use native.Mathlib.Nat.{not-suc-le-zero, zero-add}
 use native.Mathlib.Omega.{arith}
-use lib.IntN.{ℤ}
-use lib.ListN.{length, take, drop}
+use lib.IntN.{ℤ, pos}
+use lib.ListN.{length, take, drop, get_or}
 use lib.Seq.{take_at, drop_at}
 use Rattle.farm.specs.Limits.{Limits}
 use Rattle.farm.specs.declared.refusals.Refusal.TheVariants.{NoRoom}
 use Rattle.record.specs.declared.edits.Edit.{Edit}
 use Rattle.record.specs.Record.{Record, good, bad, reading_of}
-use Rattle.record.specs.Tables.{Tables, over, seats_of, times_of, cells_of, changes_of, edits_from, roomy, read_into, tables_after}
+use Rattle.record.specs.Tables.{Tables, over, seats_of, times_of, cells_of, changes_of, edit_of, edits_from, roomy, read_into, tables_after}
 use Rattle.record.specs.Columns.{tables_of, laid, used}
 use Rattle.record.specs.Good.{good_record}
 use Rattle.record.proofs.GoodLaws.{record-facts}
@@ -86,6 +86,22 @@ columns-from-edits (s ∷ seats) (t ∷ times) (x ∷ cells) (d ∷ changes) a b
       cells_same = ap (λ (l : List ℕ). x ∷ l) below.cells_same;
       changes-same = ap (λ (l : List ℤ). d ∷ l) below.changes-same;
     }
+
+-- ════ At an index ════
+
+-- The edits from an index on are the first of them and the edits after it, for a loop over the four lists.
+pub edits-drop : (seats times cells : List ℕ) (changes : List ℤ) (i : ℕ) → length times ≡ length seats → length cells ≡ length seats
+    → length changes ≡ length seats → i < length seats
+    → drop i (edits_from seats times cells changes)
+    ≡ edit_of (get_or seats i 0) (get_or times i 0) (get_or cells i 0) (get_or changes i (pos 0)) ∷ drop (suc i) (edits_from seats times cells changes)
+unfolding edits_from
+edits-drop [] times cells changes i a b c h = absurd (not-suc-le-zero h)
+edits-drop (s ∷ seats) [] cells changes i a b c h = absurd (omega arith)
+edits-drop (s ∷ seats) (t ∷ times) [] changes i a b c h = absurd (omega arith)
+edits-drop (s ∷ seats) (t ∷ times) (x ∷ cells) [] i a b c h = absurd (omega arith)
+edits-drop (s ∷ seats) (t ∷ times) (x ∷ cells) (d ∷ changes) zero a b c h = refl
+edits-drop (s ∷ seats) (t ∷ times) (x ∷ cells) (d ∷ changes) (suc i) a b c h =
+    edits-drop seats times cells changes i (omega arith) (omega arith) (omega arith) (omega arith)
 
 -- ════ Tables after a reading ════
 

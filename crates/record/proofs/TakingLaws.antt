@@ -3,7 +3,7 @@
 use mathlib.Core.Path.{◌≡◌, refl, sym, ◌∙◌, ap}
 use mathlib.Core.Bool.{Bool, true, false}
 use mathlib.Core.List.{List, [], ◌∷◌, ◌++◌, append_assoc}
-use Prim.Native.Nat.{ℕ, ◌-◌}
+use Prim.Native.Nat.{ℕ, ◌-◌, ◌≤◌}
 use native.Mathlib.Omega.{arith}
 use lib.ListN.{length, take, drop, length-append, take-append-drop}
 use lib.Seq.{drop-append_seam}
@@ -41,6 +41,9 @@ tail-cons b t = record { front = b ∷ t.front; joined = ap (λ (l : List ℕ). 
 
 pub tail-trans : {a b c : List ℕ} → Tail a b → Tail b c → Tail a c
 tail-trans {a} s t = record { front = t.front ++ s.front; joined = append_assoc t.front s.front a ∙ ap (λ (l : List ℕ). t.front ++ l) s.joined ∙ t.joined }
+
+pub tail-short : {rest bytes : List ℕ} → Tail rest bytes → length rest ≤ length bytes
+tail-short {rest} {bytes} t = omega (arith, length-append t.front rest, ap length t.joined)
 
 -- Where the rest begins: the length of all less the length of the rest.
 pub tail-drop : {rest bytes : List ℕ} → Tail rest bytes → drop (length bytes - length rest) bytes ≡ rest

@@ -1,13 +1,14 @@
 -- Marks and counts of edits over the two lists of their places, edit by edit.
 -- Assumes nothing.
-use mathlib.Core.Path.{◌≡◌, refl, ◌∙◌}
+use mathlib.Core.Path.{◌≡◌, refl, ◌∙◌, ap}
 use mathlib.Core.Logic.{◌⊎◌, inl, inr}
 use mathlib.Core.Bool.{Bool, true, false, cond}
 use mathlib.Core.List.{List, [], ◌∷◌, ◌++◌}
-use Prim.Native.Nat.{ℕ, ◌+◌, ◌<◌, ◌≤◌}
+use Prim.Native.Nat.{ℕ, zero, suc, ◌+◌, ◌<◌, ◌≤◌}
+use native.Mathlib.Nat.{not-suc-le-zero}
 use native.Mathlib.Omega.{arith}
 use lib.Dec.{ltb}
-use lib.ListN.{length, take, drop, set}
+use lib.ListN.{length, get_or, take, drop, set}
 use Rattle.farm.specs.declared.places.Seat.{Seat}
 use Rattle.farm.specs.declared.places.Time.{Time}
 use Rattle.knowledge.specs.Farm.{seat, time}
@@ -26,6 +27,22 @@ mark-small v s t = by (ltb t.0 (v s.0))
     by : (b : Bool) → cond b 1 0 ≤ 1
     by true = omega arith
     by false = omega arith
+
+-- ════ All marks ════
+
+pub length-marks : (v : View) (seats times : List ℕ) → length times ≡ length seats → length (marks_in v seats times) ≡ length seats
+unfolding marks_in
+length-marks v [] times e = refl
+length-marks v (s ∷ seats) [] e = let no : ⊥ = omega arith in absurd no
+length-marks v (s ∷ seats) (t ∷ times) e = ap suc (length-marks v seats times (omega arith))
+
+pub get_or-marks : (v : View) (seats times : List ℕ) (i : ℕ) → length times ≡ length seats → i < length seats
+    → get_or (marks_in v seats times) i 0 ≡ mark_at v (seat (get_or seats i 0)) (time (get_or times i 0))
+unfolding marks_in
+get_or-marks v [] times i e h = absurd (not-suc-le-zero h)
+get_or-marks v (s ∷ seats) [] i e h = let no : ⊥ = omega arith in absurd no
+get_or-marks v (s ∷ seats) (t ∷ times) zero e h = refl
+get_or-marks v (s ∷ seats) (t ∷ times) (suc i) e h = get_or-marks v seats times i (omega arith) (omega arith)
 
 -- ════ The edits that are left ════
 
