@@ -5,7 +5,7 @@ use Rattle.carriers.proofs.CarriedLaws.{loaded, agreed-carried}
 use Rattle.byte_questions.proofs.asks.agreed.Goals as goal
 
 pub agreed_in-requires : goal.agreed_in-requires
-agreed_in-requires c = loaded c.read_places-read.ensures
+agreed_in-requires c = loaded c.read_places-read.ensures.4
 
 pub returns : goal.returns
-returns c = c.agreed_in.ensures ∙ agreed-carried c.read_places-read.ensures _ _
+returns c = c.agreed_in.ensures ∙ agreed-carried c.read_places-read.ensures.4 _ _

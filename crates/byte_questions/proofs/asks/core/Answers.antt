@@ -4,7 +4,7 @@ use Rattle.carriers.proofs.CarriedLaws.{sized, core-carried, fills_alike}
 use Rattle.byte_questions.proofs.asks.core.Goals as goal
 
 pub core_in-requires : goal.core_in-requires
-core_in-requires c = sized c.read_places-read.ensures
+core_in-requires c = sized c.read_places-read.ensures.4
 
 pub returns : goal.returns
-returns c = fills_alike (core-carried c.read_places-read.ensures _ _) c.core_in.ensures
+returns c = fills_alike (core-carried c.read_places-read.ensures.4 _ _) c.core_in.ensures

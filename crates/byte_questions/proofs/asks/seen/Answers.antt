@@ -5,7 +5,7 @@ use Rattle.carriers.proofs.CarriedLaws.{sized, seen-carried}
 use Rattle.byte_questions.proofs.asks.seen.Goals as goal
 
 pub seen_in-requires : goal.seen_in-requires
-seen_in-requires c = sized c.read_places-read.ensures
+seen_in-requires c = sized c.read_places-read.ensures.4
 
 pub returns : goal.returns
-returns c = c.seen_in.ensures ∙ seen-carried c.read_places-read.ensures _ _
+returns c = c.seen_in.ensures ∙ seen-carried c.read_places-read.ensures.4 _ _

@@ -6,4 +6,4 @@ use Rattle.carriers.proofs.CarriedLaws.{standing-carried}
 use Rattle.byte_questions.proofs.asks.standing.Goals as goal
 
 pub returns : goal.returns
-returns c = c.standing_in.ensures ∙ ap standing_answer (standing-carried c.read_places-read.ensures _)
+returns c = c.standing_in.ensures ∙ ap standing_answer (standing-carried c.read_places-read.ensures.4 _)

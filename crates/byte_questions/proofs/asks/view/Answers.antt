@@ -4,7 +4,7 @@ use Rattle.carriers.proofs.CarriedLaws.{sized, view-carried, fills_alike}
 use Rattle.byte_questions.proofs.asks.view.Goals as goal
 
 pub view_in-requires : goal.view_in-requires
-view_in-requires c = sized c.read_places-read.ensures
+view_in-requires c = sized c.read_places-read.ensures.4
 
 pub returns : goal.returns
-returns c = fills_alike (view-carried c.read_places-read.ensures _ _) c.view_in.ensures
+returns c = fills_alike (view-carried c.read_places-read.ensures.4 _ _) c.view_in.ensures

@@ -8,7 +8,8 @@ use Rattle.byte_questions.proofs.loading.read_places.Goals as goal
 
 pub returns : goal.returns
 returns c =
-    bytes-carried _ _ _ _ _ _ _ _ (λ i. omega (arith, c.type_inv.bytes i))
-    (places-left _ _ _ _
+    let left =
+    places-left _ _ _ _
     (record { losses = search rules; seats = search rules; times = search rules; cells = search rules; changes = search rules })
-    c.read.ensures)
+    c.read.ensures in
+    (left.0, left.1, left.2, left.3, bytes-carried _ _ _ _ _ _ _ _ (λ i. omega (arith, c.type_inv.bytes i)) left)
