@@ -9,7 +9,7 @@ ghost use Rattle.live.specs.Calls.{round, edit, answer_to};
 use farm::limits::{LARGEST_CELL, MOST_EDITS, MOST_ROUNDS};
 use farm::refusals::Refusal;
 use judging::lists::judge;
-use live_entries::lists::last_held;
+use live_entries::table::last_held;
 use live_table::sound::judge_table;
 use live_table::table::Table;
 use record::edits::{Edit, comes_after};

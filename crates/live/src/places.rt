@@ -6,7 +6,8 @@ use crate::answering::{answer_edit, answer_round};
 use farm::limits::{FEWEST_SEATS, MOST_SEATS};
 use farm::places::{Seat, Time};
 use farm::refusals::Refusal;
-use live_entries::lists::{put_edit, put_sets};
+use live_entries::lists::put_sets;
+use live_entries::table::put_edit;
 use live_table::table::Table;
 use record::edits::Edit;
 
