@@ -8,12 +8,13 @@ use farm::places::{Seat, Time};
 use record::edits::Edit;
 
 // Loss sets from a place on; those before and after them stay.
-#[tactic(auto, unfolding(record::specs::Tables::over))]
 pub fn put_sets(losses: &mut [u16], at: usize, sets: &[u16])
     requires { at + length sets.now ≤ length losses.old }
     ensures { losses.new ≡ over at sets.now losses.old }
 {
-    losses[at..at + sets.len()].copy_from_slice(sets);
+    for sender in 0..sets.len() {
+        losses[at + sender] = sets[sender];
+    }
 }
 
 // One entry in each of the four lists of edits; the others stay.
