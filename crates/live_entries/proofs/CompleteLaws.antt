@@ -1,7 +1,6 @@
 -- Every public function of the crate states its outcome completely: the answer, and the lists that it leaves.
 -- Assumes nothing.
-use mathlib.Core.Path.{refl, sym, ◌∙◌}
-use denote.Triple.Clauses.{at_exit}
+use mathlib.Core.Path.{refl}
 use Rattle.farm.proofs.Complete.{Complete, by-facts}
 use Rattle.live_entries.specs.contracts.lists.put_sets as put-sets
 use Rattle.live_entries.specs.contracts.lists.put_edit as put-edit
@@ -13,10 +12,7 @@ pub put-sets-complete : Complete put-sets.ended (λ M 𝓤. put-sets.clauses {M 
 put-sets-complete M 𝓤 𝓛 mem run κs a g r s v w = by-facts M 𝓤 _ _ _ (λ p q. (refl, cc))
 
 pub put-edit-complete : Complete put-edit.ended (λ M 𝓤. put-edit.clauses {M = M} {𝓤 = 𝓤})
-put-edit-complete M 𝓤 𝓛 mem run κs a g r s v w = by-facts M 𝓤 _ _ _ (λ p q. (
-  refl,
-  λ i. at_exit put-edit.ended κs a ((p.0 ∙ sym q.0) i, ((p.1 ∙ sym q.1) i, ((p.2 ∙ sym q.2) i, ((p.3 ∙ sym q.3) i, (tt, (tt, tt)))))),
-))
+put-edit-complete M 𝓤 𝓛 mem run κs a g r s v w = by-facts M 𝓤 _ _ _ (λ p q. (refl, cc))
 
 pub last-held-complete : Complete last-held.ended (λ M 𝓤. last-held.clauses {M = M} {𝓤 = 𝓤})
 last-held-complete M 𝓤 𝓛 mem run κs a g r s v w = by-facts M 𝓤 _ _ _ (λ p q. (cc, cc))
