@@ -1,3 +1,2 @@
 pub mod JudgingLaws
-pub mod EditZipLaws
 pub mod CompleteLaws

@@ -1,6 +1,6 @@
 // Whether lists are a good record, before anything is written from them. Document 01's order decides:
 // 3 for the header's numbers, 10 for the lengths, 4 for every loss set, then edit by edit 3 and 5.
-ghost use Rattle.std.specs.Prelude.{◌≡◌, ◌<◌, None};
+ghost use Rattle.std.specs.Prelude.{◌≡◌, ◌<◌, None, length};
 ghost use Rattle.farm.specs.Limits.{limits};
 ghost use Rattle.record.specs.Losses.{first_seat};
 ghost use Rattle.record.specs.Good.{good_header, sender_after, good_sets, good_edit};
@@ -82,18 +82,16 @@ fn good_edit(seats: u8, rounds: u16, edit: Edit) -> bool
 
 // Edit by edit: its fields first, then whether it comes after the one before.
 fn judge_edits(lists: Lists) -> Result<(), Refusal>
-    requires { 0 < lists.seats }
+    requires { (0 < lists.seats) × (length lists.times.now ≡ length lists.editors.now) × (length lists.cells.now ≡ length lists.editors.now) × (length lists.changes.now ≡ length lists.editors.now) }
     ensures { result ≡ judged_in (judged_edits limits lists.entry.seats lists.entry.rounds None (edits_in (tables_in lists.entry))) }
 {
     let mut before = None;
-    let places = lists.editors.iter().zip(lists.times);
-    let changes = lists.cells.iter().zip(lists.changes);
-    for ((seat, time), (cell, change)) in places.zip(changes) {
+    for i in 0..lists.editors.len() {
         let edit = Edit {
-            seat: Seat(*seat),
-            time: Time(*time),
-            cell: *cell,
-            change: *change,
+            seat: Seat(lists.editors[i]),
+            time: Time(lists.times[i]),
+            cell: lists.cells[i],
+            change: lists.changes[i],
         };
         if !good_edit(lists.seats, lists.rounds, edit) {
             return Err(Refusal::OutOfRange);
