@@ -8,14 +8,16 @@ use lib.ListN.{length, take}
 use Rattle.std.specs.Prelude.{Result, Err}
 use Rattle.farm.specs.Limits.{limits}
 use Rattle.farm.specs.declared.refusals.Refusal.TheVariants.{BadTable}
-use Rattle.record.specs.Writing.{checked_lists, answered, written_to, buffer_with, buffer_after}
+use Rattle.record.specs.Record.{good}
+use Rattle.record.specs.Writing.{accepted, judged_lists, record_from, checked_lists, answered, buffer_with}
 use Rattle.record.specs.Answers.{written_in}
 use Rattle.record.specs.Good.{good_record}
 use Rattle.farm.specs.declared.refusals.Refusal.{Refusal}
 use Rattle.live_table.proofs.SoundLaws.{used_tables, used-columns, used-back}
 use Rattle.record.proofs.ColumnLaws.{Columns}
 use Rattle.record.proofs.GoodLaws.{record-facts}
-use Rattle.record.proofs.WritingLaws.{good-lists-accepted}
+use Rattle.record.proofs.AcceptedLaws.{checked-good}
+use Rattle.record.proofs.WritingLaws.{judged-good, good-lists-accepted}
 use Rattle.live_table.specs.declared.table.Table.{Table}
 use Rattle.live_table.specs.Used.{used_record, table_reading}
 use Rattle.live_table.proofs.UsedLaws.{reading-good, reads-bad}
@@ -35,6 +37,13 @@ module _ (table : Table) (g : good_record limits (used_record table) ≡ true) w
   unfolding used_record
   used-lists = reading-good table g ∙ sym (rw (used-back table full) at (good-lists-accepted limits (used_record table) g))
 
+  pub used-accepted : judged_lists limits table.seats table.bound table.rounds (used_tables table) ≡ accepted
+  unfolding checked_lists
+  used-accepted = (judged-good _ _ (used_record table) (sym used-lists ∙ reading-good table g)).0
+
+  used-good : table_reading table ≡ good (record_from table.seats table.bound table.rounds (used_tables table))
+  used-good = used-lists ∙ checked-good table.seats table.bound table.rounds (used_tables table) limits used-accepted
+
 -- ════ The record, written out ════
 
 module _ (table : Table) where
@@ -44,7 +53,6 @@ module _ (table : Table) where
   bad-write old h = rw (reads-bad table h) (refl, refl)
 
   pub good-write : good_record limits (used_record table) ≡ true → (old new : List ℕ) (answer : Result ℕ Refusal)
-      → (answer ≡ written_in (written_to limits table.seats table.bound table.rounds (used_tables table) (length old))) × (new ≡ buffer_after limits table.seats table.bound table.rounds (used_tables table) old)
+      → (answer ≡ written_in (answered limits (good (record_from table.seats table.bound table.rounds (used_tables table))) (length old))) × (new ≡ buffer_with limits (good (record_from table.seats table.bound table.rounds (used_tables table))) old)
       → (answer ≡ written_in (answered limits (table_reading table) (length old))) × (new ≡ buffer_with limits (table_reading table) old)
-  unfolding written_to buffer_after
-  good-write g old new answer e = rw (used-lists table g) e
+  good-write g old new answer e = rw (used-good table g) e

@@ -16,7 +16,8 @@ use live_table::sound::judge_table;
 use live_table::table::Table;
 use questions::answers::{Agreed, Seen, Standing};
 use record::lists::Lists;
-use writing::lists::write;
+use writing::accepted::Accepted;
+use writing::lists::write_accepted;
 
 // What a seat has seen at a time: its view, and the known set.
 pub fn seen(table: &Table, seat: Seat, time: Time) -> Result<Seen, Refusal>
@@ -96,5 +97,5 @@ pub fn write_out(table: &Table, out: &mut [u8]) -> Result<usize, Refusal>
         cells: &table.cells[..held],
         changes: &table.changes[..held],
     };
-    write(used, out)
+    write_accepted(Accepted { lists: used }, out)
 }

@@ -2,8 +2,9 @@
 ghost use Rattle.std.specs.Prelude.{◌≡◌, length};
 ghost use Rattle.farm.specs.Limits.{limits};
 ghost use Rattle.record.specs.Answers.{written_in};
-ghost use Rattle.record.specs.Lent.{tables_in};
-ghost use Rattle.record.specs.Writing.{needed_by, written_to, buffer_after};
+ghost use Rattle.record.specs.Lent.{tables_in, record_in};
+ghost use Rattle.record.specs.Record.{good};
+ghost use Rattle.record.specs.Writing.{needed_by, written_to, buffer_after, answered, buffer_with};
 
 use crate::accepted::Accepted;
 use crate::counting::{accepted_length, has_room};
@@ -25,7 +26,13 @@ pub fn write(lists: Lists, out: &mut [u8]) -> Result<usize, Refusal>
     ensures { (result ≡ written_in (written_to limits lists.entry.seats lists.entry.bound lists.entry.rounds (tables_in lists.entry) (length out.old))) × (out.new ≡ buffer_after limits lists.entry.seats lists.entry.bound lists.entry.rounds (tables_in lists.entry) out.old) }
 {
     judge(lists)?;
-    let accepted = Accepted { lists };
+    write_accepted(Accepted { lists }, out)
+}
+
+// The same of lists that were judged already.
+pub fn write_accepted(accepted: Accepted, out: &mut [u8]) -> Result<usize, Refusal>
+    ensures { (result ≡ written_in (answered limits (good (record_in accepted.entry.lists)) (length out.old))) × (out.new ≡ buffer_with limits (good (record_in accepted.entry.lists)) out.old) }
+{
     if !has_room(out.len(), accepted) {
         return Err(Refusal::NoRoom);
     }

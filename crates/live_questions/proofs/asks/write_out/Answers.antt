@@ -2,7 +2,7 @@
 -- Assumes nothing.
 use mathlib.Core.Path.{sym, ◌∙◌}
 use Rattle.live_table.proofs.SoundLaws.{fitting-sizes, sets-fit}
-use Rattle.live_questions.proofs.WriteLaws.{bad-write, good-write}
+use Rattle.live_questions.proofs.WriteLaws.{bad-write, used-accepted, good-write}
 use Rattle.live_questions.proofs.asks.write_out.Goals as goal
 
 pub returns-then-not-judge_table : goal.returns-then-not-judge_table
@@ -16,5 +16,8 @@ shared_ref_as_front-used c =
 pub shared_ref_as_front-used-2 : goal.shared_ref_as_front-used-2
 shared_ref_as_front-used-2 c = (fitting-sizes c.args.table.now (sym c.judge_table.ensures ∙ c.if-not-judge_table.false)).2
 
+pub invariant_of-write_accepted : goal.invariant_of-write_accepted
+invariant_of-write_accepted c = record { good = used-accepted c.args.table.now (sym c.judge_table.ensures ∙ c.if-not-judge_table.false) }
+
 pub returns : goal.returns
-returns c = good-write c.args.table.now (sym c.judge_table.ensures ∙ c.if-not-judge_table.false) c.args.out.now _ _ c.write.ensures
+returns c = good-write c.args.table.now (sym c.judge_table.ensures ∙ c.if-not-judge_table.false) c.args.out.now _ _ c.write_accepted.ensures
