@@ -6,8 +6,13 @@ pub mod Changed
 pub mod Slices
 pub mod Picks
 pub mod Picked
+pub mod Tails
+pub mod Turned
 pub mod Loans
 pub mod Fields
 pub mod Lent
 pub mod Parameters
 pub mod Answered
+pub mod Whole
+pub mod Arrays
+pub mod Read

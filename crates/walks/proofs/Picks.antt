@@ -101,7 +101,7 @@ picking-into n k δ σ π τs ℓ ε pk g = record {
 }
 
 -- the locals of ρs stand after those of τs
-beyond : (τs : List Ty) (bs : Blocks τs) (E : List (Ty × ℕ)) (i : ℕ) (ρs : List Ty) (cs : Blocks ρs) → Stands E i ρs cs → Stands (env τs bs E) (past i τs) ρs cs
+pub beyond : (τs : List Ty) (bs : Blocks τs) (E : List (Ty × ℕ)) (i : ℕ) (ρs : List Ty) (cs : Blocks ρs) → Stands E i ρs cs → Stands (env τs bs E) (past i τs) ρs cs
 beyond [] bs E i ρs cs st = st
 beyond (τ ∷ τs) bs E i ρs cs st = behind (τ, bs.0) (env τs bs.1 E) (past i τs) ρs cs (beyond τs bs.1 E i ρs cs st)
 
