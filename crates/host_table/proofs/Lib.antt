@@ -4,3 +4,4 @@ pub mod Lending
 pub mod Handing
 pub mod CompleteLaws
 pub mod Runs
+pub mod Exports

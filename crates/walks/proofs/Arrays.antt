@@ -61,7 +61,7 @@ module _ {M : Type 1} {𝓤 : Ura M} {𝓛 : Logic 𝓤} {TT : Declared} {n : �
   -- the locals: the array's pointer, and the slice
   abbrev pub array_types : Lends 𝓛 TT n → List Ty
   array_types [] = []
-  array_types (f ∷ fs) = ty_ref erased imm (pointee (f.elem).written) ∷ slice_ty (ty_ref erased imm (pointee (f.elem).written)) ∷ array_types fs
+  array_types (f ∷ fs) = ty_ref erased imm (pointee (Array f.elem f.count).written) ∷ slice_ty (ty_ref erased imm (pointee (f.elem).written)) ∷ array_types fs
 
   abbrev pub array_vals : Lends 𝓛 TT n → ℕ → ℕ → List Val
   array_vals [] b o = []
@@ -188,7 +188,7 @@ module _ {M : Type 1} {𝓤 : Ura M} {𝓛 : Logic 𝓤} {TT : Declared} {n : �
       Slice = fsep (fat full_share σ cs.1.0 zero u) (fdies σ cs.1.0)
 
       Pointer : Fml
-      Pointer = fsep (fat full_share (ty_ref erased imm (pointee (f.elem).written)) cs.0 zero (vptr b (o + f.d))) (fdies (ty_ref erased imm (pointee (f.elem).written)) cs.0)
+      Pointer = fsep (fat full_share (ty_ref erased imm (pointee (Array f.elem f.count).written)) cs.0 zero (vptr b (o + f.d))) (fdies (ty_ref erased imm (pointee (Array f.elem f.count).written)) cs.0)
 
       Rest : Val → SProp 𝓤
       Rest v = eval_opds 𝓤 𝓛.H E (slice-copies (suc (suc i)) fs xs) (λ vs. Q (v ∷ vs))

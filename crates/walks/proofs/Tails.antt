@@ -3,7 +3,7 @@
 --     Split        the machine values, cut before it.        split-at      from their types
 --     lends-tail   how it is lent on
 --     beyond-all, after-all, first-all, second-all, third-all      where locals stand after a first two and three lists of others, and where those lists do
---     Inside, heads-stand, results-stand, pointers-stand, slices-stand, answer_at      the locals after those: the table's, those of the results of calls, the pointer, the tail lent on, and others
+--     Inside, heads-stand, results-stand, pointers-stand, slices-stand      the locals after those: the table's, those of the results of calls, the pointer, the tail lent on, and others
 --     heads, lends-head, heads-read     the table as it is handed on
 -- Assumes `Logic`.
 use mathlib.Core.Path.{◌≡◌, refl, sym, ◌∙◌, ap, subst}
@@ -154,9 +154,6 @@ module _ (ηs : List Ty) (hs : Blocks ηs) (δs : List Ty) (cs : Blocks δs) (π
   pub slices-stand : Stands Inside (past (past (past 0 πs) δs) ηs) ss fs
   slices-stand =
       beyond ηs hs (env δs cs (env πs es (env ss fs e))) (past (past 0 πs) δs) ss fs (beyond δs cs (env πs es (env ss fs e)) (past 0 πs) ss fs (beyond πs es (env ss fs e) 0 ss fs (stands ss fs e)))
-
-  pub answer_at : get_or Inside (past (past (past (past 0 ss) πs) δs) ηs) none ≡ get_or e 0 none
-  answer_at = after (past (past (past 0 ss) πs) δs) ηs hs (env δs cs (env πs es (env ss fs e))) ∙ after (past (past 0 ss) πs) δs cs (env πs es (env ss fs e)) ∙ after (past 0 ss) πs es (env ss fs e) ∙ after 0 ss fs e
 
 -- ════ The table, handed on: a `&T` as it is, a `&mut T` lent again ════
 

@@ -30,8 +30,8 @@ use denote.Triple.Spec.{Meets, Back, triple_of}
 use denote.Triple.Statement.{Contract, Triple}
 use Rattle.walks.proofs.Answered.{Answer}
 use Rattle.walks.proofs.Enters.{enters-at}
-use Rattle.walks.proofs.Frames.{locals, copies, past, env, allocs-all, passes-all, frees_all, from_at, operands}
-use Rattle.walks.proofs.Tails.{heads, head_vals, again, head-operands, head-typed, lends-head, heads-read, Inside, heads-stand, Tail, tail_types, pointers, slices, lending, Points, Split, split-at, pointer_vals, tail-typed, pointers-typed, slices-typed, lends-tail, beyond-all, after-all, first-all, second-all, third-all, results-stand, pointers-stand, slices-stand, answer_at}
+use Rattle.walks.proofs.Frames.{locals, copies, past, behind, allocs-all, passes-all, frees_all, from_at, operands}
+use Rattle.walks.proofs.Tails.{heads, head_vals, again, head-operands, head-typed, lends-head, heads-read, Inside, heads-stand, Tail, tail_types, pointers, slices, lending, Points, Split, split-at, pointer_vals, tail-typed, pointers-typed, slices-typed, lends-tail, beyond-all, after-all, first-all, second-all, third-all, results-stand, pointers-stand, slices-stand}
 use Rattle.walks.proofs.Turned.{Turning, before_types, after_types, turned-by, Results, froms, tos, from_kepts, to_kepts, Given, args_of, rest_args, rest_vals, turned_vals, vals_of, fins_of, flat-froms, turned-typed, rest_are, flat-tos, says-fins, Meetings, turns-all}
 
 -- local i of those after f's parameters: the x, the y and the tail
@@ -47,13 +47,13 @@ handing n k μ δ ξ σ π ts τs tl g h = record {
   givens = 0;
   params = k;
   locals = local δ value_local ∷ local (ty_ref (named 0) μ π) value_local ∷ locals (before_types ts) (locals τs (locals (tail_types tl)
-      (locals (heads μ π) (locals (after_types ts) (locals (pointers tl) (locals (slices tl) (local ξ value_local ∷ [])))))));
-  body = again μ σ (place_of ts τs tl 0)
-      (turned-by 2 (place_of ts τs tl (past 0 (heads μ π))) ts
-      (lending tl (suc (suc (past (past 0 τs) (before_types ts)))) (place_of ts τs tl (past (past 0 (after_types ts)) (heads μ π))) (place_of ts τs tl (past (past (past 0 (pointers tl)) (after_types ts)) (heads μ π)))
-      (seq (call g (head-operands μ (place_of ts τs tl 0) (copies (place_of ts τs tl (past 0 (heads μ π))) (after_types ts) (copies (suc (suc (past 0 (before_types ts)))) τs (copies (place_of ts τs tl (past (past (past 0 (pointers tl)) (after_types ts)) (heads μ π))) (slices tl) []))))
-      (place (place_of ts τs tl (past (past (past (past 0 (slices tl)) (pointers tl)) (after_types ts)) (heads μ π))) []))
-      (seq (call h (copy (place (place_of ts τs tl (past (past (past (past 0 (slices tl)) (pointers tl)) (after_types ts)) (heads μ π))) []) ∷ []) (place 0 [])) return))));
+      (local ξ value_local ∷ locals (heads μ π) (locals (after_types ts) (locals (pointers tl) (locals (slices tl) []))))));
+  body = again μ σ (place_of ts τs tl 1)
+      (turned-by 2 (place_of ts τs tl (suc (past 0 (heads μ π)))) ts
+      (lending tl (suc (suc (past (past 0 τs) (before_types ts)))) (place_of ts τs tl (suc (past (past 0 (after_types ts)) (heads μ π)))) (place_of ts τs tl (suc (past (past (past 0 (pointers tl)) (after_types ts)) (heads μ π))))
+      (seq (call g (head-operands μ (place_of ts τs tl 1) (copies (place_of ts τs tl (suc (past 0 (heads μ π)))) (after_types ts) (copies (suc (suc (past 0 (before_types ts)))) τs (copies (place_of ts τs tl (suc (past (past (past 0 (pointers tl)) (after_types ts)) (heads μ π)))) (slices tl) []))))
+      (place (place_of ts τs tl 0) []))
+      (seq (call h (copy (place (place_of ts τs tl 0) []) ∷ []) (place 0 [])) return))));
 }
 
 -- the contracts' shapes: of f, of g, and of h
@@ -167,32 +167,31 @@ module _ {M : Type 1} {𝓤 : Ura M} (𝓛 : Logic 𝓤) (n : ℕ) (F : Lfts n �
         core : ent 𝓤 Pre (WpFn 𝓤 H 𝓣.C 𝓣.Λ code (v₀ ∷ (us ++ (ys ++ (zs ++ [])))) Out)
         core =
             qed 𝓛 ((raw (toks 𝓛 n κs qs) ⊛ ‵ (owns (F κs ∷ types_at (froms ts ps) κs) a (v₀ ∷ [], vss))) ∷ raw ((c κs a).requires gh) ∷ []) ∵ enter ! 𝓣.C 𝓣.Λ code (v₀ ∷ (us ++ (ys ++ (zs ++ [])))) Out $
-            alloc1 ! (λ l₀. alloc1 ! (λ l₁. allocs-all ! (before_types ts) (λ bs. allocs-all ! τs (λ ds. allocs-all ! (tail_types tl) (λ rs. allocs-all ! (heads μ π) (λ hs. allocs-all ! (after_types ts) (λ cs. allocs-all ! (pointers tl) (λ es. allocs-all ! (slices tl) (λ fs. alloc1 ! (λ l₃. alloc0 ! $ params1 ! $ pass1 ! (init ! 9 refl (tt, tt)) $
-            let F' = Inside (heads μ π) hs (after_types ts) cs (pointers tl) es (slices tl) fs ((ax.told, l₃) ∷ []) in
-            let there = beyond-all (ay.told, l₀) (ty_ref (named 0) μ π, l₁) (before_types ts) bs τs ds (tail_types tl) rs F' in
-            let at = after-all (ay.told, l₀) (ty_ref (named 0) μ π, l₁) (before_types ts) bs τs ds (tail_types tl) rs F' in
-            let again-at = there 0 (heads μ π) hs (heads-stand (heads μ π) hs (after_types ts) cs (pointers tl) es (slices tl) fs ((ax.told, l₃) ∷ [])) in
-            let results = there (past 0 (heads μ π)) (after_types ts) cs (results-stand (heads μ π) hs (after_types ts) cs (pointers tl) es (slices tl) fs ((ax.told, l₃) ∷ [])) in
-            let pointed = there (past (past 0 (after_types ts)) (heads μ π)) (pointers tl) es (pointers-stand (heads μ π) hs (after_types ts) cs (pointers tl) es (slices tl) fs ((ax.told, l₃) ∷ [])) in
-            let sliced = there (past (past (past 0 (pointers tl)) (after_types ts)) (heads μ π)) (slices tl) fs (slices-stand (heads μ π) hs (after_types ts) cs (pointers tl) es (slices tl) fs ((ax.told, l₃) ∷ [])) in
-            let answered = at (past (past (past (past 0 (slices tl)) (pointers tl)) (after_types ts)) (heads μ π)) ∙ answer_at (heads μ π) hs (after_types ts) cs (pointers tl) es (slices tl) fs ((ax.told, l₃) ∷ []) in
-            let turned = first-all (ay.told, l₀) (ty_ref (named 0) μ π, l₁) (before_types ts) bs τs ds (tail_types tl) rs F' 0 in
-            let kept = second-all (ay.told, l₀) (ty_ref (named 0) μ π, l₁) (before_types ts) bs τs ds (tail_types tl) rs F' 0 in
-            let tailed = third-all (ay.told, l₀) (ty_ref (named 0) μ π, l₁) (before_types ts) bs τs ds (tail_types tl) rs F' 0 in
-            move ! (8 ∷ []) $ passes-all ! (before_types ts) bs us ty-us _ (ys ++ (zs ++ [])) $ move ! (8 ∷ []) $ passes-all ! τs ds ys cut.typed _ (zs ++ []) $ move ! (8 ∷ []) $ passes-all ! (tail_types tl) rs zs (tail-typed tl zs cut.fits) _ [] $ pass0 ! $
+            alloc1 ! (λ l₀. alloc1 ! (λ l₁. allocs-all ! (before_types ts) (λ bs. allocs-all ! τs (λ ds. allocs-all ! (tail_types tl) (λ rs. alloc1 ! (λ l₃. allocs-all ! (heads μ π) (λ hs. allocs-all ! (after_types ts) (λ cs. allocs-all ! (pointers tl) (λ es. allocs-all ! (slices tl) (λ fs. alloc0 ! $ params1 ! $ pass1 ! (init ! 9 refl (tt, tt)) $
+            let G = Inside (heads μ π) hs (after_types ts) cs (pointers tl) es (slices tl) fs [] in
+            let there = beyond-all (ay.told, l₀) (ty_ref (named 0) μ π, l₁) (before_types ts) bs τs ds (tail_types tl) rs ((ax.told, l₃) ∷ G) in
+            let answered = after-all (ay.told, l₀) (ty_ref (named 0) μ π, l₁) (before_types ts) bs τs ds (tail_types tl) rs ((ax.told, l₃) ∷ G) 0 in
+            let again-at = there 1 (heads μ π) hs (behind (ax.told, l₃) G 0 (heads μ π) hs (heads-stand (heads μ π) hs (after_types ts) cs (pointers tl) es (slices tl) fs [])) in
+            let results = there (suc (past 0 (heads μ π))) (after_types ts) cs (behind (ax.told, l₃) G (past 0 (heads μ π)) (after_types ts) cs (results-stand (heads μ π) hs (after_types ts) cs (pointers tl) es (slices tl) fs [])) in
+            let pointed = there (suc (past (past 0 (after_types ts)) (heads μ π))) (pointers tl) es (behind (ax.told, l₃) G (past (past 0 (after_types ts)) (heads μ π)) (pointers tl) es (pointers-stand (heads μ π) hs (after_types ts) cs (pointers tl) es (slices tl) fs [])) in
+            let sliced = there (suc (past (past (past 0 (pointers tl)) (after_types ts)) (heads μ π))) (slices tl) fs (behind (ax.told, l₃) G (past (past (past 0 (pointers tl)) (after_types ts)) (heads μ π)) (slices tl) fs (slices-stand (heads μ π) hs (after_types ts) cs (pointers tl) es (slices tl) fs [])) in
+            let turned = first-all (ay.told, l₀) (ty_ref (named 0) μ π, l₁) (before_types ts) bs τs ds (tail_types tl) rs ((ax.told, l₃) ∷ G) 0 in
+            let kept = second-all (ay.told, l₀) (ty_ref (named 0) μ π, l₁) (before_types ts) bs τs ds (tail_types tl) rs ((ax.told, l₃) ∷ G) 0 in
+            let tailed = third-all (ay.told, l₀) (ty_ref (named 0) μ π, l₁) (before_types ts) bs τs ds (tail_types tl) rs ((ax.told, l₃) ∷ G) 0 in
+            move ! (8 ∷ []) $ passes-all ! (before_types ts) bs us ty-us _ (ys ++ (zs ++ [])) $ move ! (8 ∷ []) $ passes-all ! τs ds ys cut.typed _ (zs ++ []) $ move ! (8 ∷ []) $ passes-all ! (tail_types tl) rs zs (tail-typed tl zs cut.fits) _ [] $ pass0 ! $ move ! (0 ∷ 1 ∷ 2 ∷ 7 ∷ 8 ∷ []) $
             -- [the tail; the y; the x; room for g's answer; …; room for the tail lent on, and its pointer; room for the results; room for the table; table; …; room for the result; …; P]
-            move ! (8 ∷ 9 ∷ []) $ lends-head ! 𝓣.C 𝓣.Λ (ay.told, l₀) μ σ π l₁ _ _ _ (place_of ts τs tl 0) hs again-at (addr_at κs a.0).0 (addr_at κs a.0).1 $
+            move ! (8 ∷ 9 ∷ []) $ lends-head ! 𝓣.C 𝓣.Λ (ay.told, l₀) μ σ π l₁ _ _ _ (place_of ts τs tl 1) hs again-at (addr_at κs a.0).0 (addr_at κs a.0).1 $
             -- [the table; table; the tail; the y; the x; room for g's answer; …; room for the tail lent on, and its pointer; room for the results; …; room for the result; …; P]
             move ! (13 ∷ []) $ split ! $ move ! (1 ∷ []) $ fsplit ! $ move ! (1 ∷ 12 ∷ 7 ∷ []) $
-            turns-all 𝓛 𝓣 ps κs (fm_of 𝓤 H 𝓛.laws 𝓣) _ _ _ ! ts ms 2 (place_of ts τs tl (past 0 (heads μ π))) bs cs turned results a.1 vss are (λ rs' ws gs ty-ws.
+            turns-all 𝓛 𝓣 ps κs (fm_of 𝓤 H 𝓛.laws 𝓣) _ _ _ ! ts ms 2 (place_of ts τs tl (suc (past 0 (heads μ π)))) bs cs turned results a.1 vss are (λ rs' ws gs ty-ws.
             -- [what the parameters after the table own; the results; the x; what the table owns; the tokens; the table; table; the tail; the y; room for g's answer; …; room for the tail lent on, and its pointer; …; room for the result; …; what f requires]
-            move ! (12 ∷ 11 ∷ 7 ∷ []) $ lends-tail ! 𝓣.C 𝓣.Λ _ _ _ tl (suc (suc (past (past 0 τs) (before_types ts)))) (place_of ts τs tl (past (past 0 (after_types ts)) (heads μ π))) (place_of ts τs tl (past (past (past 0 (pointers tl)) (after_types ts)) (heads μ π))) rs es fs tailed pointed sliced zs cut.fits $
+            move ! (12 ∷ 11 ∷ 7 ∷ []) $ lends-tail ! 𝓣.C 𝓣.Λ _ _ _ tl (suc (suc (past (past 0 τs) (before_types ts)))) (place_of ts τs tl (suc (past (past 0 (after_types ts)) (heads μ π)))) (place_of ts τs tl (suc (past (past (past 0 (pointers tl)) (after_types ts)) (heads μ π)))) rs es fs tailed pointed sliced zs cut.fits $
             move ! (6 ∷ 3 ∷ []) $ fjoin ! $ move ! (6 ∷ 0 ∷ []) $ join ! $ move ! (14 ∷ []) $ use1 𝓛 (raw ((c' κs (to κs a rs')).requires (ag.ghost κs a rs' gh))) (ag.asks κs a rs' gs gh) $ move ! (1 ∷ 0 ∷ []) $ join ! $
             use1 𝓛 (raw (C'.pre (y' rs' ws))) (id⊢ 𝓤 (C'.pre (y' rs' ws))) $
             -- [what g asks; the pointer; the tail lent on; the tail; the results; the x; the table; table; the y; room for g's answer; …; …; room for the result; …]
             calls_from ! (fm_of 𝓤 H 𝓛.laws 𝓣) (raw (C'.pre (y' rs' ws))) (v₀ ∷ (ws ++ (ys ++ (zs ++ [])))) (C'.post (y' rs' ws)) (asked rs' ws ty-ws)
-            (heads-read ! 6 7 (ay.told, l₀) μ π l₁ _ (place_of ts τs tl 0) hs again-at (addr_at κs a.0).0 (addr_at κs a.0).1 refl refl (operands ! 4 _ (place_of ts τs tl (past 0 (heads μ π))) (after_types ts) cs ws ty-ws results refl
-            (operands ! 8 _ (suc (suc (past 0 (before_types ts)))) τs ds ys cut.typed kept refl (operands ! 2 _ (place_of ts τs tl (past (past (past 0 (pointers tl)) (after_types ts)) (heads μ π))) (slices tl) fs zs (slices-typed tl zs cut.fits) sliced refl (no_more !))))) (λ w.
+            (heads-read ! 6 7 (ay.told, l₀) μ π l₁ _ (place_of ts τs tl 1) hs again-at (addr_at κs a.0).0 (addr_at κs a.0).1 refl refl (operands ! 4 _ (place_of ts τs tl (suc (past 0 (heads μ π)))) (after_types ts) cs ws ty-ws results refl
+            (operands ! 8 _ (suc (suc (past 0 (before_types ts)))) τs ds ys cut.typed kept refl (operands ! 2 _ (place_of ts τs tl (suc (past (past (past 0 (pointers tl)) (after_types ts)) (heads μ π)))) (slices tl) fs zs (slices-typed tl zs cut.fits) sliced refl (no_more !))))) (λ w.
             use1 𝓛 (later (some (λ (x : X.Denot). (raw (toks 𝓛 n κs qs) ⊛ ‵ (X.own_val x (w ∷ []))) ⊛ some (λ (ls : Lasts T' κs (to κs a rs')). ‵ (lasts T' κs (to κs a rs') ls) ⊛ raw ((c' κs (to κs a rs')).ensures (ag.ghost κs a rs' gh) x (at_exit T' κs (to κs a rs') ls)))))) (id⊢ 𝓤 (C'.post (y' rs' ws) w)) $
             await ! tt $ pick ! (λ x. split ! $ move ! (1 ∷ []) $ pick ! (λ ls. split ! $ move ! (2 ∷ []) $ split ! $ move ! (1 ∷ []) $ peeks ! X (Is X) (shows 𝓛 X) x (w ∷ []) (λ is.
             -- [what g's answer owns; the tokens; the last values; what g ensures; the pointer; the tail lent on; the tail; the results; the x; the table; table; the y; room for g's answer; …; …; room for the result; …]
@@ -203,8 +202,8 @@ module _ {M : Type 1} {𝓤 : Ura M} (𝓛 : Logic 𝓤) (n : ℕ) (F : Lfts n �
             -- [what the answer owns; what h ensures; the tokens; the last values; what g ensures; the pointer; the tail lent on; the tail; the results; the x; the table; table; the y; g's answer; …; …; room for the result; …]
             land ! (from ! (stop !)) (init ! 16 refl (ay.typed M 𝓤 𝓛 y u is')) $ returns ! (look ! 16 refl) $ forget ! 11 refl $ forget ! 13 refl $ forget ! 16 refl $
             move ! (16 ∷ 17 ∷ []) $ free1 ! $ move ! (11 ∷ 15 ∷ []) $ free1 ! $ move ! (9 ∷ []) $ frees_all ! (before_types ts) bs us ty-us _ $ move ! (10 ∷ []) $ frees_all ! τs ds ys cut.typed _ $ move ! (7 ∷ []) $ frees_all ! (tail_types tl) rs zs (tail-typed tl zs cut.fits) _ $
-            move ! (8 ∷ []) $ frees_all ! (heads μ π) hs (head_vals μ v₀) (head-typed μ π (addr_at κs a.0).0 (addr_at κs a.0).1) _ $ move ! (7 ∷ []) $ frees_all ! (after_types ts) cs ws ty-ws _ $ move ! (5 ∷ []) $ frees_all ! (pointers tl) es (pointer_vals tl zs) (pointers-typed tl zs cut.fits) _ $ move ! (5 ∷ []) $ frees_all ! (slices tl) fs zs (slices-typed tl zs cut.fits) _ $
-            move ! (5 ∷ 6 ∷ []) $ free1 ! $ free0 ! $ updating ! $ at_once ! $
+            move ! (9 ∷ 10 ∷ []) $ free1 ! $ move ! (8 ∷ []) $ frees_all ! (heads μ π) hs (head_vals μ v₀) (head-typed μ π (addr_at κs a.0).0 (addr_at κs a.0).1) _ $ move ! (7 ∷ []) $ frees_all ! (after_types ts) cs ws ty-ws _ $ move ! (5 ∷ []) $ frees_all ! (pointers tl) es (pointer_vals tl zs) (pointers-typed tl zs cut.fits) _ $
+            move ! (5 ∷ []) $ frees_all ! (slices tl) fs zs (slices-typed tl zs cut.fits) _ $ free0 ! $ updating ! $ at_once ! $
             show ! (λ (y' : Y.Denot). sep 𝓤 (Back 𝓛 T.signature (κs, qs, tt, a, (v₀ ∷ [], vss)) u y') (ensured 𝓛 T c κs a gh y')) y $ move ! (2 ∷ 0 ∷ []) $ join ! $ frame ! $
             show ! (λ (ls' : Lasts T κs a). sep 𝓤 (sem 𝓛 (lasts T κs a ls')) ((c κs a).ensures gh y (at_exit T κs a ls'))) (back_to κs a rs' ls) $
             move ! (1 ∷ []) $ use1 𝓛 (‵ (lasts T κs a (back_to κs a rs' ls))) (says-lasts rs' ls) $ frame ! $ move ! (1 ∷ 0 ∷ []) $ by ! (ag.says κs a rs' gs gh x ls y os))))))))))))))))))))
