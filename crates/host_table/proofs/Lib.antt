@@ -4,4 +4,5 @@ pub mod Lending
 pub mod Handing
 pub mod CompleteLaws
 pub mod Runs
+pub mod Whole
 pub mod Exports
