@@ -3,3 +3,5 @@ pub mod CarriedLaws
 pub mod Parts
 pub mod CompleteLaws
 pub mod Promises
+pub mod Reading
+pub mod Questions

@@ -41,7 +41,8 @@ use Rattle.walks.proofs.Frames.{locals, copies, past, env, allocs-all, passes-al
 use Rattle.walks.proofs.Handed.{Handed, plus, ats}
 use Rattle.walks.proofs.Lent.{shares_of, rest_of as rest-share, cut-toks, join-toks}
 use Rattle.walks.proofs.Picked.{Asker}
-use Rattle.walks.proofs.Tails.{Tail, tail_types, pointers, slices, lending, Points, Split, split-at, pointer_vals, tail-typed, pointers-typed, slices-typed, lends-tail, beyond-all, after-all, second-all, third-all, Inside, results-stand, pointers-stand, slices-stand}
+use Rattle.walks.proofs.Slices.{lent-last, last-lent}
+use Rattle.walks.proofs.Tails.{Tail, nothing-more, lent-on, tail_types, pointers, slices, lending, Points, Split, split-at, pointer_vals, tail-typed, pointers-typed, slices-typed, lends-tail, beyond-all, after-all, second-all, third-all, Inside, results-stand, pointers-stand, slices-stand}
 use Rattle.walks.proofs.Thin.{Of}
 
 -- local i of those after f's parameters: the y and the tail
@@ -63,6 +64,12 @@ module _ {M : Type 1} {𝓤 : Ura M} {𝓛 : Logic 𝓤} {TT : Declared} {n : �
         (lending tl (suc (suc (past 0 τs))) (place_of τs tl (suc (past 0 (array_types fs)))) (place_of τs tl (suc (past (past 0 (pointers tl)) (array_types fs))))
         (seq (call g (copy (place (place_of τs tl 0) []) ∷ slice-copies (place_of τs tl 1) fs (copies 2 τs (copies (place_of τs tl (suc (past (past 0 (pointers tl)) (array_types fs)))) (slices tl) []))) (place 0 [])) return)));
   }
+
+-- a `&mut [E]` that is the last of the y
+points : {M : Type 1} {𝓤 : Ura M} (𝓛 : Logic 𝓤) (m l : ℕ) (ps : List (Slot (suc m))) (ks : Kepts ps) (ps' : List (Slot (plus l m))) (ks' : Kepts ps') (τs : List Ty) (hd : Handed m l ps ks ps' ks' τs) (σs : List Ty) (tl : Tail) → τs ≡ σs ++ tail_types tl
+    → (κs : Lfts (suc m)) (a : Denots (types_at ps κs)) (vss : Valss (types_at ps κs)) → Are (types_at ps κs) (Ises (types_at ps κs)) a vss → Points tl (flat (types_at ps κs) vss)
+points {M} {𝓤} 𝓛 m l ps ks ps' ks' τs hd σs nothing-more e κs a vss are = tt
+points {M} {𝓤} 𝓛 m l ps ks ps' ks' τs hd σs (lent-on ℓ ε) e κs a vss are = hd.ends M 𝓤 𝓛 (ap lent-last e ∙ last-lent σs ℓ ε) κs a vss are
 
 -- the contracts' shapes: `Picked.antt`'s `Asker` for f and for k, and g's
 module _ {M : Type 1} {𝓤 : Ura M} (𝓛 : Logic 𝓤) (TT : Declared) (m l : ℕ) (fs : Lends 𝓛 TT (plus l m)) (ps : List (Slot (suc m))) (ks : Kepts ps) (ps' : List (Slot (plus l m))) (ks' : Kepts ps') (τs : List Ty) (hd : Handed m l ps ks ps' ks' τs) (X Y : RattleType) where
@@ -93,7 +100,6 @@ module _ {M : Type 1} {𝓤 : Ura M} (𝓛 : Logic 𝓤) (TT : Declared) (m l : 
           → ent 𝓤 ((c' (ats l m κs.0 κs.1) (told-of κs a x)).ensures (ghost κs a x g) y (at_exit Teller (ats l m κs.0 κs.1) (told-of κs a x) ls)) ((c κs a).ensures g y (at_exit T κs a (told-back κs a x ls)))
 
     module _ (ag : Agrees) (op : Opens 𝓛 (row TT)) (ax : Answer X) (ay : Answer Y) (σs : List Ty) (tl : Tail) (cut-is : τs ≡ σs ++ tail_types tl)
-        (points : (κs : Lfts (suc m)) (a : Denots (types_at ps κs)) (vss : Valss (types_at ps κs)) → Are (types_at ps κs) (Ises (types_at ps κs)) a vss → Points tl (flat (types_at ps κs) vss))
         (one : (κs : Lfts (suc m)) (b o : ℕ) (h : TT.D) → At ps' (ats l m κs.0 κs.1) b o h κs.0 fs) (k g : Callee) (count : ℕ) (𝓣 : Tables 𝓤 𝓛.H)
         (met'' : Triple 𝓤 (𝓣.C k) (triple_of 𝓛 T''.signature (closing 𝓛 T'' c''))) (met : Triple 𝓤 (𝓣.C g) (triple_of 𝓛 Teller.signature (closing 𝓛 Teller c'))) where
       open 𝓛 use {H, A}
@@ -142,7 +148,7 @@ module _ {M : Type 1} {𝓤 : Ura M} (𝓛 : Logic 𝓤) (TT : Declared) (m l : 
         xs = flat (types_at ps κs) vss
 
         cut : Split σs tl xs
-        cut = split-at σs tl xs (subst (λ (ρs : List Ty). Typed ρs xs) (hd.types κs ∙ cut-is) (all_Typed 𝓛 (types_at ps κs) (hd.laws M 𝓤 𝓛 κs) a.1 vss are)) (points κs a.1 vss are)
+        cut = split-at σs tl xs (subst (λ (ρs : List Ty). Typed ρs xs) (hd.types κs ∙ cut-is) (all_Typed 𝓛 (types_at ps κs) (hd.laws M 𝓤 𝓛 κs) a.1 vss are)) (points 𝓛 m l ps ks ps' ks' τs hd σs tl cut-is κs a.1 vss are)
 
         abbrev ys : List Val
         ys = cut.front
