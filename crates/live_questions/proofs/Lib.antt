@@ -1,5 +1,6 @@
 pub mod WriteLaws
 pub mod CarriedLaws
+pub mod AskLaws
 pub mod Parts
 pub mod CompleteLaws
 pub mod Promises

@@ -7,7 +7,6 @@ use mathlib.Core.List.{List, [], ◌++◌}
 use lib.Dec.{ltb→lt}
 use seplogic.Ra.Ura.{Ura}
 use mir.Syntax.{Callee, Fn, Ty}
-use base.Fml.{Lft}
 use prog.Model.{Model}
 use prog.Routine.{Routine, Env}
 use prog.Wp.{Closed}

@@ -1,5 +1,7 @@
 // Questions on the host's table: 19 first, and then 8, 7, 9 as of any other carrier. Its arrays are lent whole, since no
 // answer looks past the record's rounds and edits.
+#![tactic(auto, using(crate::proofs::AskLaws::table_questions))]
+
 ghost use Rattle.std.specs.Prelude.{◌≡◌, length};
 ghost use Rattle.farm.specs.Limits.{limits};
 ghost use Rattle.record.specs.Answers.{written_in};
@@ -77,6 +79,7 @@ pub fn marks(table: &Table, seat: Seat, time: Time, out: &mut [u8]) -> Result<()
 }
 
 // The record so far as bytes, into a lent buffer: 19, 7.
+#[tactic(auto, using(crate::proofs::AskLaws::table_writing))]
 pub fn write_out(table: &Table, out: &mut [u8]) -> Result<usize, Refusal>
     ensures { (result ≡ written_in (answered limits (table_reading table.now) (length out.old)))
         × (out.new ≡ buffer_with limits (table_reading table.now) out.old) }
