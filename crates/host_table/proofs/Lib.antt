@@ -1,5 +1,6 @@
 pub mod WideLaws
 pub mod SoundLaws
+pub mod AskLaws
 pub mod Lending
 pub mod Handing
 pub mod CompleteLaws

@@ -1,4 +1,6 @@
 // The questions on the live table, and the record so far. Refusals: 19, then 8, 7, 9.
+#![tactic(auto, using(crate::proofs::AskLaws::named_questions))]
+
 ghost use Rattle.std.specs.Prelude.{◌≡◌};
 ghost use Rattle.questions.specs.Question.{view_asked, core_asked, marks_asked, loser_asked};
 ghost use Rattle.questions.specs.Answers.{seen_asked, agreed_asked, standing_answer};

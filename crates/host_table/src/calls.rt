@@ -11,6 +11,7 @@ use live_table::table::Table;
 
 // Opens a table in any state for a new record: 3.
 #[unsafe(no_mangle)]
+#[tactic(auto, using(crate::proofs::AskLaws::named_calls))]
 pub extern "C" fn ricecrock_table_open(table: &mut Table, seats: u32, bound: u32) -> u8
     ensures { EndsWith (opening seats bound) table.old result table.new }
 {
