@@ -2,11 +2,9 @@
 -- generated from the source. A contract that says less breaks these laws.
 -- Assumes nothing.
 use mathlib.Core.Path.{◌≡◌, refl, ◌∙◌, ap}
-use mathlib.Core.List.{List, [], ◌∷◌}
-use Prim.Native.Nat.{ℕ}
+use mathlib.Core.List.{[], ◌∷◌}
 use seplogic.Ra.Ura.{Ura}
 use base.Logic.{SProp, ent, sep, via, id⊢}
-use contract.Lifetimes.{Lfts}
 use contract.Monad.{Fun, fact, conj, sep→conj}
 use mir.Syntax.{Callee, ty_int, w8, w32}
 use prog.Memory.{Memory}
@@ -16,10 +14,8 @@ use denote.Builtin.{u8, u16, u32, i16, unit, usize}
 use denote.Exit.{yes}
 use denote.Plain.{uint_Lawful}
 use denote.RattleType.{RattleType}
-use denote.Ref.{MutRef, ShrRef}
 use denote.Signature.{shr_slice, mut_slice}
 use denote.Struct.Laws as LL
-use mir.Syntax.{named}
 use Rattle.std.specs.contracts.result.Result as R
 use Rattle.farm.proofs.Complete.{by-facts}
 use Rattle.farm.specs.contracts.places.Seat as Seat
@@ -49,7 +45,6 @@ use Rattle.host.specs.contracts.results.AgreedToldFromResultAgreedRefusal.from a
 use Rattle.host.specs.contracts.results.StandingToldFromResultStandingRefusal.from as standing-told-from
 use Rattle.host.specs.contracts.results.LengthToldFromResultUsizeRefusal.from as length-told-from
 use Rattle.host.proofs.AskedLaws.{seen-asked, agreed-asked, standing-asked, view-asked, core-asked, marks-asked}
-use Rattle.live_table.specs.contracts.table.Table as Table
 use Rattle.live.specs.contracts.places.open_into as open-into
 use Rattle.live.specs.contracts.places.round_into as round-into
 use Rattle.live_questions.specs.contracts.asks.seen as seen

@@ -14,7 +14,7 @@ use prog.Wp.{Closed}
 use types.Logic.{Logic}
 use contract.Lifetimes.{Lfts}
 use contract.Running.{Running, tables, tables_of}
-use denote.Laws.{Is, Ises, Are, Tells, Lawfuls}
+use denote.Laws.{Ises, Are, Lawfuls}
 use denote.Memory.{pointee}
 use denote.RattleType.{RattleType, Denots, Valss, flat, mirs}
 use denote.Ref.{MutRef, ShrRef, mut_Tells, shr_Tells}

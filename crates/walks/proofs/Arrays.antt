@@ -12,15 +12,15 @@ use lib.Dec.{T as Holds, ltb}
 use lib.ListN.{length}
 use seplogic.Ra.Ura.{Ura}
 use base.Fraction.{full_share}
-use mir.Syntax.{Ty, w64, ty_ref, ty_struct, named, erased, imm, deref, field, place, Opd, copy, int, addr_of, aggregate, Body, assign, seq, tcons, tnil}
-use mir.Val.{Val, vptr, vint, vstruct, vcons, vnil}
-use base.Logic.{SProp, ent, sep, ex, guard, wand, via, id⊢, snd∗}
+use mir.Syntax.{Ty, w64, ty_ref, named, erased, imm, deref, field, place, Opd, copy, int, addr_of, aggregate, Body, assign, seq}
+use mir.Val.{Val, vptr}
+use base.Logic.{SProp, ent, sep, ex, wand, via, id⊢, snd∗}
 use base.Fml.{Lft, Share, Fml, fat, fdies, flft, fsep}
 use prog.Memory.{field_at}
 use prog.Wp.{Env, Calls, Loops, eval_opds, read}
 use types.Logic.{Logic, sem}
 use contract.Lifetimes.{Lfts, Within, lft_at}
-use types.Kit.{Item, ‵, raw, mean, ⋆, nth, del, pull, unpull, later, given, ◌⊛◌, Post, runs, Step, step, ◌$◌, ◌∵◌, !, qed, by, move, drop, use1, use2, use3, split, fsplit, fjoin, feq_l, feq_i, frame, assume, await, updating, now as at_once, show, check, learn, rewrite, done}
+use types.Kit.{Item, ‵, raw, mean, ⋆, nth, del, pull, unpull, later, ◌⊛◌, Post, runs, Step, step, ◌$◌, ◌∵◌, !, qed, by, move, drop, use1, use2, use3, split, fsplit, fjoin, feq_l, feq_i, frame, assume, await, updating, now as at_once, show, rewrite, done}
 use types.Run.{Opds, look, init, stop, hop, fld, from, load, addr, lit, and_then, no_more, assigns}
 use types.Part.{agg}
 use denote.Array.{Array}
@@ -31,9 +31,8 @@ use denote.Opens.{Opens, twice_dup, hide, unhide}
 use denote.RattleType.{RattleType, Denots, Valss, flat, owns}
 use denote.Shadow.{pure_i}
 use denote.Signature.{Slot, shr_slice, types_at}
-use denote.Slice.{ShrSlice, Room, room, elements_shared, slice_ty, slice_val, shr_slice_vals}
+use denote.Slice.{ShrSlice, Room, room, slice_ty, slice_val}
 use denote.Struct.Declared.{Declared, row}
-use denote.Struct.Laws as LL
 use denote.Triple.End.{Kepts, Fins, lasts_of}
 use borrow.Struct.Share.{Parts}
 use Rattle.walks.proofs.Changed.{lies}

@@ -4,13 +4,13 @@
 --     read-first   the theorem, for any y, and a `&mut [E]` behind them or not (`Tails.antt`). g's first lifetimes are those of the arrays, and its others are f's others
 -- Assumes nothing.
 use mathlib.Core.Path.{◌≡◌, refl, sym, ◌∙◌, ap, subst}
-use Prim.Native.Nat.{ℕ, zero, suc}
+use Prim.Native.Nat.{ℕ, suc}
 use mathlib.Core.List.{List, [], ◌∷◌, ◌++◌, append-nil}
 use seplogic.Ra.Ura.{Ura}
 use mir.Syntax.{Callee, Fn, Ty, ty_ref, named, imm, place, copy, call, return, seq, local, value_local}
 use mir.Val.{Val, vptr}
-use base.Logic.{SProp, ent, emp, sep, via, id⊢}
-use base.Fml.{Lft, Share, flft, fsep}
+use base.Logic.{SProp, ent, emp, sep, id⊢}
+use base.Fml.{Lft, Share, flft}
 use prog.Wp.{Tables, WpFn}
 use types.Logic.{Logic, sem}
 use contract.Lifetimes.{Lfts, Shares, toks}
@@ -34,16 +34,14 @@ use denote.Triple.Entry.{Args}
 use denote.Triple.Spec.{Meets, Back, triple_of}
 use denote.Triple.Statement.{Contract, Triple}
 use Rattle.walks.proofs.Answered.{Answer}
-use Rattle.walks.proofs.Arrays.{Lend, Lends, array_types, array_vals, slice_vals, lending-arrays, slice-copies, slots_of, kepts_of, args_of, vals_of, flats, rest_of, says-rest, At, made, array-typed, lends-arrays, arrays-read}
-use Rattle.walks.proofs.Changed.{lies}
+use Rattle.walks.proofs.Arrays.{Lends, array_types, array_vals, slice_vals, lending-arrays, slice-copies, slots_of, kepts_of, args_of, vals_of, flats, rest_of, says-rest, At, made, array-typed, lends-arrays, arrays-read}
 use Rattle.walks.proofs.Enters.{enters-at}
-use Rattle.walks.proofs.Frames.{locals, copies, past, env, allocs-all, passes-all, frees_all, from_at, operands}
+use Rattle.walks.proofs.Frames.{locals, copies, past, allocs-all, passes-all, frees_all, from_at, operands}
 use Rattle.walks.proofs.Handed.{Handed, plus, ats}
 use Rattle.walks.proofs.Lent.{shares_of, rest_of as rest-share, cut-toks, join-toks}
 use Rattle.walks.proofs.Picked.{Asker}
 use Rattle.walks.proofs.Slices.{lent-last, last-lent}
 use Rattle.walks.proofs.Tails.{Tail, nothing-more, lent-on, tail_types, pointers, slices, lending, Points, Split, split-at, pointer_vals, tail-typed, pointers-typed, slices-typed, lends-tail, beyond-all, after-all, second-all, third-all, Inside, results-stand, pointers-stand, slices-stand}
-use Rattle.walks.proofs.Thin.{Of}
 
 -- local i of those after f's parameters: the y and the tail
 abbrev pub place_of : (τs : List Ty) (tl : Tail) → ℕ → ℕ

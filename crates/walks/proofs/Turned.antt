@@ -10,9 +10,9 @@ use mathlib.Core.List.{List, [], ◌∷◌, ◌++◌}
 use seplogic.Ra.Ura.{Ura}
 use mir.Syntax.{Callee, Ty, Body, seq, call, copy, place}
 use mir.Val.{Val}
-use base.Logic.{SProp, ent, emp, sep, ex, guard, via, id⊢}
+use base.Logic.{SProp, ent, emp, ex, guard, via, id⊢}
 use base.Fml.{ftrue, fsep}
-use prog.Wp.{Calls, Loops, Env, Tables}
+use prog.Wp.{Env, Tables}
 use types.Logic.{Logic, sem}
 use types.Kit.{Item, ‵, raw, some, given, later, ◌⊛◌, Post, runs, Seq, ◌$◌, ◌∵◌, !, qed, move, drop, use0, use1, split, join, pick, learn, fsplit, fjoin, frame, await, updating, now as at_once, show, check, rewrite, done}
 use types.Run.{look, init, stop, load, and_then, no_more, land}

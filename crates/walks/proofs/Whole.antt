@@ -4,13 +4,12 @@
 --     whole        the theorem, for any x and any y, and a `&mut [E]` behind them or not (`Tails.antt`)
 -- Assumes nothing.
 use mathlib.Core.Path.{◌≡◌, refl, sym, ◌∙◌, ap, subst}
-use Prim.Native.Nat.{ℕ, zero, suc}
+use Prim.Native.Nat.{ℕ, suc}
 use mathlib.Core.List.{List, [], ◌∷◌, ◌++◌, append-nil}
 use seplogic.Ra.Ura.{Ura}
 use mir.Syntax.{Callee, Fn, Ty, Mutability, ty_ref, named, place, copy, call, return, seq, local, value_local}
 use mir.Val.{Val, vptr}
-use base.Logic.{SProp, ent, emp, sep, id⊢, mono_r, mono∗}
-use base.Fml.{fsep}
+use base.Logic.{SProp, ent, emp, sep, id⊢, mono_r}
 use prog.Wp.{Tables, WpFn}
 use types.Logic.{Logic, sem}
 use contract.Lifetimes.{Lfts, Shares, toks}
@@ -24,7 +23,7 @@ use denote.Signature.{Slot, plain, types_at}
 use denote.Steps.{peeks, nothing}
 use denote.Triple.Call.{calls_from}
 use denote.Triple.Clauses.{Ended, Clauses, Lasts, at_exit, lasts, ensured, closing}
-use denote.Triple.End.{Kepts, lasts_of}
+use denote.Triple.End.{Kepts}
 use denote.Triple.Entry.{Args}
 use denote.Triple.Spec.{Meets, Back, triple_of}
 use denote.Triple.Statement.{Contract, Triple}
