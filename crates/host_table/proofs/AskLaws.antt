@@ -1,23 +1,19 @@
--- A question of a host on the table, and a call that changes it, by the numbers that are handed on. By these laws, about a table alone,
+-- A question of a host on the table, and its opening, by the numbers that are handed on. By these laws, about a table alone,
 -- the check proves the exports by itself.
 -- Assumes nothing.
 use mathlib.Core.Path.{◌≡◌, refl, sym}
 use Prim.Native.Nat.{ℕ}
-use lib.IntN.{ℤ}
-use mir.ValLaws.{to_z-of_z}
-use Rattle.farm.specs.declared.places.Seat.{Seat}
 use Rattle.questions.specs.Answers.{seen_asked, agreed_asked}
 use Rattle.questions.specs.Question.{Lent, view_asked, core_asked, marks_asked, loser_asked}
 use Rattle.live_table.specs.declared.table.Table.{Table}
 use Rattle.live_table.specs.Used.{table_reading}
-use Rattle.live.specs.Calls.{opening, edit, answer_to, table_after}
+use Rattle.live.specs.Calls.{opening, answer_to, table_after}
 use Rattle.host.specs.declared.numbers.SeatNumber.{SeatNumber}
 use Rattle.host.specs.declared.numbers.TimeNumber.{TimeNumber}
 use Rattle.host.specs.Numbers.{at_most, seat_named, time_named}
 use Rattle.host.proofs.WideLaws.{seen-wide, agreed-wide, standing-wide, view-wide, core-wide, marks-wide}
-use Rattle.host_table.specs.Codes.{EditHanded}
 use Rattle.host_table.proofs.SoundLaws.{table-sound}
-use Rattle.host_table.proofs.WideLaws.{opening-handed, edit-handed}
+use Rattle.host_table.proofs.WideLaws.{opening-handed}
 
 module _ (table : Table) (s : SeatNumber) where
   pub standing-named : loser_asked (table_reading table) (seat_named s) ≡ loser_asked (table_reading table) (record { 0 = at_most 255 s.0 })
@@ -49,13 +45,3 @@ module _ (n t : ℕ) (table : Table) where
   opening-table = sym (opening-handed n t table refl refl).tables
 
 pub ruleset named_calls = (opening-answer, opening-table)
-
-pub edit-answer : (seat : SeatNumber) (cell : ℕ) (change : ℤ) (handed : Seat) (given : ℤ) (table : Table) → EditHanded seat change handed given
-    → answer_to (edit handed cell given) table ≡ answer_to (edit (seat_named seat) cell change) table
-edit-answer seat cell change handed given table h = (edit-handed cell table seat change handed given h).answers
-
-pub edit-table : (seat : SeatNumber) (cell : ℕ) (change : ℤ) (handed : Seat) (given : ℤ) (table : Table) → EditHanded seat change handed given
-    → table_after (edit handed cell given) table ≡ table_after (edit (seat_named seat) cell change) table
-edit-table seat cell change handed given table h = (edit-handed cell table seat change handed given h).tables
-
-pub ruleset named_edits = (edit-answer, edit-table, to_z-of_z)

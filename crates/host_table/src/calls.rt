@@ -51,7 +51,6 @@ fn small_edit(seat: SeatNumber, change: i32) -> Small
 
 // Adds an edit at the present time: 19, 3, 12, 5.
 #[unsafe(no_mangle)]
-#[tactic(auto, using(crate::proofs::AskLaws::named_edits))]
 pub extern "C" fn ricecrock_table_add_edit(
     table: &mut Table,
     seat: SeatNumber,
