@@ -16,3 +16,4 @@ pub mod Answered
 pub mod Whole
 pub mod Arrays
 pub mod Read
+pub mod Parted

@@ -117,12 +117,12 @@ module _ {n : ℕ} where
 
 -- ════ The machine values ════
 
-one-of : (τ : Ty) (vs : List Val) → Typed (τ ∷ []) vs → vs ≡ only vs ∷ []
+pub one-of : (τ : Ty) (vs : List Val) → Typed (τ ∷ []) vs → vs ≡ only vs ∷ []
 one-of τ [] ty = absurd ty
 one-of τ (v ∷ []) ty = refl
 one-of τ (v ∷ w ∷ vs) ty = absurd ty.1
 
-of-one : (τ : Ty) (vs : List Val) → Typed (τ ∷ []) vs → Of τ (only vs)
+pub of-one : (τ : Ty) (vs : List Val) → Typed (τ ∷ []) vs → Of τ (only vs)
 of-one τ [] ty = absurd ty
 of-one τ (v ∷ []) ty = ty.0
 of-one τ (v ∷ w ∷ vs) ty = absurd ty.1
