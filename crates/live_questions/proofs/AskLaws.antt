@@ -27,7 +27,7 @@ use Rattle.carriers.proofs.CarriedLaws.{sized, loaded, seen-carried, agreed-carr
 use Rattle.live_table.specs.declared.table.Table.{Table}
 use Rattle.live_table.specs.Used.{used_record, table_reading}
 use Rattle.live_table.proofs.SoundLaws.{used_tables, fitting-sizes, sets-fit}
-use Rattle.live_questions.proofs.WriteLaws.{bad-write, used-accepted, good-write}
+use Rattle.live_questions.proofs.WriteLaws.{bad-write, used-accepted, used-good}
 use Rattle.live_questions.proofs.CarriedLaws.{carried-bad, carried-good}
 
 module _ (table : Table) where
@@ -76,11 +76,11 @@ module _ (table : Table) where
 
   pub written-good : (old : List ℕ) → good_record limits (used_record table) ≡ true
       → written_in (answered limits (table_reading table) (length old)) ≡ written_in (answered limits (good (record_from table.seats table.bound table.rounds (used_tables table))) (length old))
-  written-good old g = sym (good-write table g old _ _ (refl, refl)).0
+  written-good old g = rw (used-good table g) refl
 
   pub left-good : (old : List ℕ) → good_record limits (used_record table) ≡ true
       → buffer_with limits (table_reading table) old ≡ buffer_with limits (good (record_from table.seats table.bound table.rounds (used_tables table))) old
-  left-good old g = sym (good-write table g old _ _ (refl, refl)).1
+  left-good old g = rw (used-good table g) refl
 
   pub sets-there : good_record limits (used_record table) ≡ true → table.seats * table.rounds ≤ 889
   sets-there g = let f = fitting-sizes table g in sets-fit _ _ f.0 f.1

@@ -9,7 +9,7 @@ use Rattle.std.specs.Prelude.{Result, Err}
 use Rattle.farm.specs.Limits.{limits}
 use Rattle.farm.specs.declared.refusals.Refusal.TheVariants.{BadTable}
 use Rattle.record.specs.Record.{good}
-use Rattle.record.specs.Writing.{accepted, judged_lists, record_from, checked_lists, answered, buffer_with}
+use Rattle.record.specs.Writing.{accepted, judged_lists, record_from, checked_lists, answered, written_to, buffer_with, buffer_after}
 use Rattle.record.specs.Answers.{written_in}
 use Rattle.record.specs.Good.{good_record}
 use Rattle.farm.specs.declared.refusals.Refusal.{Refusal}
@@ -41,7 +41,7 @@ module _ (table : Table) (g : good_record limits (used_record table) ≡ true) w
   unfolding checked_lists
   used-accepted = (judged-good _ _ (used_record table) (sym used-lists ∙ reading-good table g)).0
 
-  used-good : table_reading table ≡ good (record_from table.seats table.bound table.rounds (used_tables table))
+  pub used-good : table_reading table ≡ good (record_from table.seats table.bound table.rounds (used_tables table))
   used-good = used-lists ∙ checked-good table.seats table.bound table.rounds (used_tables table) limits used-accepted
 
 -- ════ The record, written out ════
@@ -53,6 +53,7 @@ module _ (table : Table) where
   bad-write old h = rw (reads-bad table h) (refl, refl)
 
   pub good-write : good_record limits (used_record table) ≡ true → (old new : List ℕ) (answer : Result ℕ Refusal)
-      → (answer ≡ written_in (answered limits (good (record_from table.seats table.bound table.rounds (used_tables table))) (length old))) × (new ≡ buffer_with limits (good (record_from table.seats table.bound table.rounds (used_tables table))) old)
+      → (answer ≡ written_in (written_to limits table.seats table.bound table.rounds (used_tables table) (length old))) × (new ≡ buffer_after limits table.seats table.bound table.rounds (used_tables table) old)
       → (answer ≡ written_in (answered limits (table_reading table) (length old))) × (new ≡ buffer_with limits (table_reading table) old)
-  good-write g old new answer e = rw (used-good table g) e
+  unfolding written_to buffer_after
+  good-write g old new answer e = rw (used-lists table g) e
