@@ -10,7 +10,7 @@ use mir.Syntax.{Callee, ty_int, w8, w32}
 use prog.Memory.{Memory}
 use prog.Routine.{Routine}
 use types.Logic.{Logic}
-use denote.Builtin.{u8, u16, u32, i16, unit, usize}
+use denote.Builtin.{u8, u16, u32, i16, i32, unit, usize}
 use denote.Exit.{yes}
 use denote.Plain.{uint_Lawful}
 use denote.RattleType.{RattleType}
@@ -45,8 +45,10 @@ use Rattle.host.specs.contracts.results.AgreedToldFromResultAgreedRefusal.from a
 use Rattle.host.specs.contracts.results.StandingToldFromResultStandingRefusal.from as standing-told-from
 use Rattle.host.specs.contracts.results.LengthToldFromResultUsizeRefusal.from as length-told-from
 use Rattle.host.proofs.AskedLaws.{seen-asked, agreed-asked, standing-asked, view-asked, core-asked, marks-asked}
+use Rattle.live_table.specs.contracts.table.Table as Table
 use Rattle.live.specs.contracts.places.open_into as open-into
 use Rattle.live.specs.contracts.places.round_into as round-into
+use Rattle.live.specs.contracts.places.edit_into as edit-into
 use Rattle.live_questions.specs.contracts.asks.seen as seen
 use Rattle.live_questions.specs.contracts.asks.agreed as agreed
 use Rattle.live_questions.specs.contracts.asks.standing as standing
@@ -56,6 +58,9 @@ use Rattle.live_questions.specs.contracts.asks.marks as marks
 use Rattle.live_questions.specs.contracts.asks.write_out as write-out
 use Rattle.host_table.specs.contracts.calls.ricecrock_table_open as ricecrock-table-open
 use Rattle.host_table.specs.contracts.calls.ricecrock_table_add_round as ricecrock-table-add-round
+use Rattle.host_table.specs.contracts.calls.ricecrock_table_add_edit as ricecrock-table-add-edit
+use Rattle.host_table.specs.contracts.calls.small_edit as small-edit
+use Rattle.host_table.specs.contracts.calls.Small as Small
 use Rattle.host_table.specs.contracts.asks.ricecrock_table_seen as ricecrock-table-seen
 use Rattle.host_table.specs.contracts.asks.ricecrock_table_agreed as ricecrock-table-agreed
 use Rattle.host_table.specs.contracts.asks.ricecrock_table_standing as ricecrock-table-standing
@@ -64,9 +69,11 @@ use Rattle.host_table.specs.contracts.asks.ricecrock_table_core as ricecrock-tab
 use Rattle.host_table.specs.contracts.asks.ricecrock_table_marks as ricecrock-table-marks
 use Rattle.host_table.specs.contracts.asks.ricecrock_table_record as ricecrock-table-record
 use Rattle.host_table.proofs.SoundLaws.{table-sound}
-use Rattle.host_table.proofs.WideLaws.{ends_with, opening-handed}
+use Rattle.host_table.proofs.WideLaws.{ends_with, opening-handed, edit-handed}
+use Rattle.host_table.specs.Codes.{EditHanded}
 use Rattle.walks.proofs.Changed.{lies}
 use Rattle.walks.proofs.Turned.{Turning, Says}
+use Rattle.walks.proofs.Parted as parted
 use Rattle.walks.proofs.Whole.{Agrees}
 use Rattle.host_table.proofs.Whole.{Changed, Asked}
 
@@ -205,4 +212,17 @@ module _ {M : Type 1} {𝓤 : Ura M} (𝓛 : Logic 𝓤) (mem : Memory → SProp
     last-ghost = λ x. tt;
     last-asks = λ x. id⊢ 𝓤 _;
     says = λ κs a rs gs g x ls y ms. both 𝓤 _ _ _ (λ p q. record { answered = q ∙ ap length_told p.0; left = p.1 });
+  }
+
+  pub add-edit-agrees : parted.Agrees Table.the_type SeatNumber.the_row u32 i32 Seat.the_row i16 Small.the_row Done u8 (λ small. small.seat) (λ small. small.change) (λ seat change small. EditHanded seat change small.seat small.change)
+      (ricecrock-table-add-edit.clauses 𝓛 mem run) (small-edit.clauses 𝓛 mem run) (edit-into.clauses 𝓛 mem run) (refusal-number.clauses 𝓛 mem run) (λ κs t small ls. (ls.0, (tt, (tt, (tt, tt)))))
+  add-edit-agrees = record {
+    first-ghost = λ seat change. tt;
+    first-asks = λ seat change. id⊢ 𝓤 _;
+    first-says = λ seat change small ls. id⊢ 𝓤 _;
+    ghost = λ κs t small g. tt;
+    asks = λ κs t small handed g. id⊢ 𝓤 _;
+    last-ghost = λ x. tt;
+    last-asks = λ x. id⊢ 𝓤 _;
+    says = λ κs t small handed g x ls y ms. both 𝓤 _ _ _ (λ p q. ends_with (edit-handed _ _ _ _ _ _ handed) p q);
   }
