@@ -1,5 +1,5 @@
 -- A question on the table is the question on what the table reads as and on its arrays. By these laws, about a table alone, the check
--- proves each question by itself, and the record written out.
+-- proves questions by itself, and the record written out.
 -- Assumes nothing.
 use mathlib.Core.Path.{◌≡◌, refl, sym}
 use mathlib.Core.Logic.{◌⊎◌, inl, inr}
@@ -20,10 +20,10 @@ use Rattle.record.specs.Writing.{record_from, answered, buffer_with}
 use Rattle.record.specs.Good.{good_record}
 use Rattle.questions.specs.Accepted.{Accepted}
 use Rattle.questions.specs.Answers.{seen_answer, seen_asked, agreed_asked}
-use Rattle.questions.specs.Question.{Lent, by_value, view_asked, core_asked, marks_asked, loser_asked}
-use Rattle.carriers.specs.Carried.{Carried, Fitting, view_for, known_for, core_for, loser_for, agreed_for, marks_for}
+use Rattle.questions.specs.Question.{Lent, by_value, view_asked, loser_asked}
+use Rattle.carriers.specs.Carried.{Carried, Fitting, view_for, known_for, loser_for, agreed_for}
 use Rattle.carriers.specs.Loading.{sizes_of}
-use Rattle.carriers.proofs.CarriedLaws.{sized, loaded, seen-carried, agreed-carried, standing-carried, view-carried, core-carried, marks-carried}
+use Rattle.carriers.proofs.CarriedLaws.{sized, loaded, seen-carried, agreed-carried, standing-carried, view-carried}
 use Rattle.live_table.specs.declared.table.Table.{Table}
 use Rattle.live_table.specs.Used.{used_record, table_reading}
 use Rattle.live_table.proofs.SoundLaws.{used_tables, fitting-sizes, sets-fit}
@@ -57,13 +57,7 @@ module _ (table : Table) where
     pub view-table : (lent : Lent) → view_asked lent (table_reading table) p ℓ ≡ view_for lent (checked_of (table_reading table)) table.losses p ℓ
     view-table lent = sym (view-carried table-carries p ℓ lent)
 
-    pub core-table : (lent : Lent) → core_asked lent (table_reading table) p ℓ ≡ core_for lent (checked_of (table_reading table)) table.losses p ℓ
-    core-table lent = sym (core-carried table-carries p ℓ lent)
-
-    pub marks-table : (lent : Lent) → marks_asked lent (table_reading table) p ℓ ≡ marks_for lent (checked_of (table_reading table)) table.losses table.editors table.times p ℓ
-    marks-table lent = sym (marks-carried table-carries p ℓ lent)
-
-pub ruleset table_questions = (sized-table, loaded-table, standing-table, seen-table, agreed-table, view-table, core-table, marks-table)
+pub ruleset table_questions = (sized-table, loaded-table, standing-table, seen-table, agreed-table, view-table)
 
 -- ════ The record, written out ════
 
