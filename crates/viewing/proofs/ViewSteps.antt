@@ -1,22 +1,25 @@
 -- The table of all views: what stands where in it, how it is filled in, and the views that it gives. Each law over plain values.
 -- Assumes nothing.
 use mathlib.Core.Path.{◌≡◌, refl, sym, ◌∙◌, ap, ap₂}
-use mathlib.Core.Logic.{◌⊎◌, inl, inr, ◌≢◌}
-use mathlib.Core.Bool.{Bool, cond}
+use mathlib.Core.Logic.{◌⊎◌, inl, inr, ⊎_elim, ◌≢◌}
+use mathlib.Core.Bool.{Bool, true, false, cond}
 use mathlib.Core.List.{List, []}
 use Prim.Native.Nat.{ℕ, zero, suc, ◌+◌, ◌*◌, ◌/◌, ◌%◌, ◌≤◌, ◌<◌, max}
+use native.Mathlib.Nat.{eq-or-lt_of_le}
+use native.Mathlib.Numerals.{add-one}
 use native.Mathlib.Omega.{arith}
 use lib.IntN.{pos}
-use lib.ListN.{get_or, set, replicate}
+use lib.ListN.{length, get_or, set, replicate, length-set}
+use lib.Seq.{get_or-set_same, get_or-set_other}
 use borrow.Author.Tests.{eq-eqb, ne_eqb}
 use Rattle.farm.specs.Sets.{Seats, bit}
-use Rattle.farm.proofs.Cases.{less-or-not}
+use Rattle.farm.proofs.Cases.{less-or-not, equal_or_not}
 use Rattle.farm.proofs.SetLaws.{bit-collect}
 use Rattle.knowledge.specs.Farm.{Farm, farm_of}
 use Rattle.knowledge.specs.Views.{View, up_to, joined, view, views_of}
-use Rattle.viewing.specs.Counts.{room, below, counts, held, view_in, arrives, arrivals, count_at, counts_to, views_to, all_counts, first_counts}
-use Rattle.viewing.proofs.CountLaws.{below_in, below_out, filled_none, filled_more, filled-skip, filled-equal, get_or-filled}
-use Rattle.viewing.proofs.Turns.{turns}
+use Rattle.viewing.specs.Counts.{room, below, filled, counts, held, both, view_in, arrives, arrivals, count_at, counts_to, views_to, all_counts, first_counts}
+use Rattle.viewing.proofs.CountLaws.{below_in, below_out, filled_none, filled_more, filled-skip, filled-equal, get_or-filled, is-tabulated, length-filled}
+use Rattle.viewing.proofs.Turns.{turns, joined-zero, joined_next}
 
 -- ════ Places in the table of all views ════
 
@@ -165,5 +168,86 @@ pub counts-at : (n : ℕ) (v : View) (q : ℕ) → n ≤ room → q < n → get_
 unfolding held
 counts-at n v q small h = held-counts n v q small h
 
+-- ════ Rows joined one by one ════
+
+-- With no row joined every count is 0.
+pub rows-none : (n : ℕ) (test : ℕ → Bool) (views : ℕ → View) → counts n (joined 0 test views) ≡ replicate room 0
+unfolding counts
+rows-none n test views =
+    filled-equal room n 0 nothing nothing (λ j h. by j (less-or-not j n)) ∙ sym (filled_none room nothing)
+  where
+    nothing : View
+    nothing = joined 0 test views
+
+    by : (j : ℕ) → (j < n) ⊎ (n ≤ j) → below n nothing j ≡ below 0 nothing j
+    by j (inl l) = below_in n nothing j l ∙ joined-zero test views j ∙ sym (below_out 0 nothing j (omega arith))
+    by j (inr l) = below_out n nothing j l ∙ sym (below_out 0 nothing j (omega arith))
+
+-- A row joins where its seat passes the test, and changes nothing where it does not.
+pub rows_more : (n p : ℕ) (test : ℕ → Bool) (views : ℕ → View) → n ≤ room → test p ≡ true
+    → counts n (joined (p + 1) test views) ≡ counts n (both (held (counts n (joined p test views))) (views p))
+unfolding both
+rows_more n p test views small e =
+    counts-equal n (joined (p + 1) test views) (both (held (counts n (joined p test views))) (views p))
+    (λ q h. joined_next p test views q ∙ (rw (e, held-counts n (joined p test views) q small h) refl))
+
+pub rows_same : (n p : ℕ) (test : ℕ → Bool) (views : ℕ → View) → test p ≡ false
+    → counts n (joined (p + 1) test views) ≡ counts n (joined p test views)
+rows_same n p test views e =
+    counts-equal n (joined (p + 1) test views) (joined p test views)
+    (λ q h. joined_next p test views q ∙ (rw e (omega arith)))
+
+-- A list of as many counts as there is room for is a view's, where it has the view's count of each seat.
+pub is-counts : (v : View) (l : List ℕ) → length l ≡ room → ((q : ℕ) → q < room → get_or l q 0 ≡ v q) → l ≡ counts room v
+unfolding counts filled
+is-counts v l e same = is-tabulated room (below room v) l e (λ q h. same q h ∙ sym (below_in room v q h))
+
+pub length-counts : (v : View) → length (counts room v) ≡ room
+unfolding counts
+length-counts v = length-filled room room v
+
+-- A view while a row joins it: the counts below q are joined.
+pub row-none : (l : List ℕ) (w : View) → length l ≡ room → counts room (both (held l) (below 0 w)) ≡ l
+unfolding both held
+row-none l w e = sym (is-counts (both (held l) (below 0 w)) l e (λ q h. stays q))
+  where
+    stays : (q : ℕ) → get_or l q 0 ≡ both (held l) (below 0 w) q
+    stays q = rw (below_out 0 w q (omega arith)) (omega arith)
+
+pub row_next : (v w : View) (q : ℕ) → q < room
+    → counts room (both v (below (q + 1) w)) ≡ set (counts room (both v (below q w))) q (max (get_or (counts room (both v (below q w))) q 0) (w q))
+unfolding both
+row_next v w q h =
+    sym (is-counts (both v (below (q + 1) w)) (set (counts room before) q x)
+    (length-set (counts room before) q x ∙ length-counts before)
+    (λ j g. by j g (equal_or_not j q)))
+  where
+    before : View
+    before = both v (below q w)
+
+    x : ℕ
+    x = max (get_or (counts room before) q 0) (w q)
+
+    here : q < length (counts room before)
+    here = rw (length-counts before) h
+
+    joins : x ≡ both v (below (q + 1) w) q
+    joins = rw (counts-at room before q (omega arith) h, below_out q w q (omega arith), below_in (q + 1) w q (omega arith)) (omega arith)
+
+    past : (j : ℕ) → j ≢ q → q ≤ j → q + 1 ≤ j
+    past j other l = ⊎_elim (λ same. absurd (other (sym same))) (λ more. rw add-one more) (eq-or-lt_of_le l)
+
+    kept : (j : ℕ) → j ≢ q → (j < q) ⊎ (q ≤ j) → both v (below q w) j ≡ both v (below (q + 1) w) j
+    kept j other (inl l) = rw (below_in q w j l, below_in (q + 1) w j (omega arith)) refl
+    kept j other (inr l) = rw (below_out q w j l, below_out (q + 1) w j (past j other l)) refl
+
+    by : (j : ℕ) → j < room → (j ≡ q) ⊎ (j ≢ q) → get_or (set (counts room before) q x) j 0 ≡ both v (below (q + 1) w) j
+    by j g (inl same) = rw same (get_or-set_same (counts room before) q x 0 here ∙ joins)
+    by j g (inr other) = get_or-set_other (counts room before) q j x 0 other ∙ counts-at room before j (omega arith) g ∙ kept j other (less-or-not j q)
+
+pub row_end : (v w : View) (q : ℕ) → q ≡ room → counts room (both v (below q w)) ≡ counts room (both v w)
+unfolding both
+row_end v w q e = rw e (counts-equal room (both v (below room w)) (both v w) (λ j h. rw (below_in room w j h) refl))
+
 -- By these the check proves the loops over the table of all views by itself.
-pub ruleset view_steps = (turns, counts-zero, fill_next, fill_end, first_next, first-all, counts-view, counts-views_of)
+pub ruleset view_steps = (turns, counts-zero, fill_next, fill_end, first_next, first-all, counts-view, counts-views_of, counts-at, rows-none, rows_more, rows_same, row-none, row_next, row_end)

@@ -1,6 +1,6 @@
 -- Views as the code holds them: arrays with room for the most seats, one count for each (one more than the latest time, 0 for
 -- none), and 0 for every seat from n on, so that what an array holds is settled in every entry.
-use Rattle.std.specs.Prelude.{Bool, cond, not, List, [], ◌∷◌, ◌++◌, ℕ, zero, suc, ◌+◌, ◌*◌, ◌/◌, ◌%◌, ltb, get_or}
+use Rattle.std.specs.Prelude.{Bool, cond, not, List, [], ◌∷◌, ◌++◌, ℕ, zero, suc, ◌+◌, ◌*◌, ◌/◌, ◌%◌, ltb, max, get_or}
 use Rattle.farm.specs.Limits.{limits}
 use Rattle.farm.specs.Sets.{Seats, bit, collect}
 use Rattle.farm.specs.declared.places.Seat.{Seat}
@@ -56,6 +56,10 @@ view_in table p q = get_or table (p * room + q) 0
 -- The view that an array of counts holds.
 unfoldable pub held : List ℕ → View
 held list q = get_or list q 0
+
+-- Two views joined: of each seat the larger count.
+unfoldable pub both : View → View → View
+both v w q = max (v q) (w q)
 
 -- Whether the send of s to p was not lost in round r, and the senders of whom that holds.
 abbrev pub arrives : Farm → (r p s : ℕ) → Bool

@@ -1,13 +1,13 @@
 // Rule 1 of document 01: what each seat has seen. A view is held as counts, for each seat one more
 // than the latest time seen of it and 0 for none, so that joining two views takes the larger count.
 // The views of all seats go forward together, round by round.
-#![tactic(auto, using(crate::proofs::ViewSteps::view_steps), unfolding(crate::specs::Counts::view_in, crate::specs::Counts::arrivals, crate::specs::Counts::counts, crate::specs::Counts::first_counts, knowledge::specs::Views::up_to))]
+#![tactic(auto, using(crate::proofs::ViewSteps::view_steps), unfolding(crate::specs::Counts::view_in, crate::specs::Counts::arrivals, crate::specs::Counts::counts, crate::specs::Counts::first_counts, crate::specs::Counts::held, crate::specs::Counts::both, knowledge::specs::Views::up_to))]
 
 ghost use Rattle.std.specs.Prelude.{◌≡◌, cond, max, ◌≤◌, ◌<◌, pos};
 ghost use Rattle.farm.specs.Limits.{limits};
 ghost use Rattle.knowledge.specs.Farm.{after};
 ghost use Rattle.knowledge.specs.Views.{view_of, views_of};
-ghost use Rattle.viewing.specs.Counts.{counts, first_counts, farm_in, count_of, heard_by, own_view, seat_view, joined_view, all_views, views_below, views_with};
+ghost use Rattle.viewing.specs.Counts.{counts, first_counts, farm_in, count_of, held, both, heard_by, own_view, seat_view, joined_view, all_views, views_below, views_with};
 
 use crate::farms::Farm;
 use crate::losses::was_lost;
@@ -41,17 +41,29 @@ fn larger(count: u16, joins: bool, other: u16) -> u16
     count.max(if joins { other } else { 0 })
 }
 
-// The count of one seat in the joined views of a set of seats.
-fn joined_count(views: &[u16; TABLE], seats: u8, set: u16, of: Seat) -> u16
-    requires { (seats ≤ limits.most_seats) × (of.0 < limits.most_seats) }
-    ensures { result ≡ count_of (joined_view seats set views.now) of }
+// Joins one seat's row of the table to a view. Rows are joined whole, in place and at a fixed length: the only branch
+// is then whether a row joins, and the time does not hang on the counts.
+fn join_row(view: &mut [u16; ROOM], views: &[u16; TABLE], p: Seat)
+    requires { p.0 < limits.most_seats }
+    ensures { view.new ≡ counts limits.most_seats (both (held view.old) (seat_view views.now p)) }
 {
-    let mut count: u16 = 0;
-    for p in 0..seats {
-        let at = (p as usize) * ROOM + (of.0 as usize);
-        count = larger(count, holds(set, Seat(p)), views[at]);
+    for q in 0..ROOM {
+        view[q] = view[q].max(views[(p.0 as usize) * ROOM + q]);
     }
-    count
+}
+
+// The joined rows of a set of seats.
+fn joined_rows(views: &[u16; TABLE], seats: u8, set: u16) -> Counts
+    requires { seats ≤ limits.most_seats }
+    ensures { result.of ≡ counts limits.most_seats (joined_view seats set views.now) }
+{
+    let mut view: [u16; ROOM] = [0; ROOM];
+    for p in 0..seats {
+        if holds(set, Seat(p)) {
+            join_row(&mut view, views, Seat(p));
+        }
+    }
+    Counts { of: view }
 }
 
 // The seats whose send to this one was not lost in the round that begins at the time.
@@ -75,16 +87,15 @@ fn own_count(time: Time, p: Seat, q: Seat) -> u16
 }
 
 // What p has seen of q when the round that begins at the time is over: p's own place, what p had
-// seen before, and what those had seen whom p heard.
-fn next_count(before: &[u16; TABLE], seats: u8, from: u16, begun: Time, p: Seat, q: Seat) -> u16
-    requires { (seats ≤ limits.most_seats) × (begun.0 < limits.most_rounds) × (p.0 < limits.most_seats) × (q.0 < limits.most_seats) }
-    ensures { result ≡ max (max (count_of (own_view p (after begun)) q) (count_of (seat_view before.now p) q))
-        (count_of (joined_view seats from before.now) q) }
+// seen before, and what those had seen whom p heard, which is given.
+fn next_count(before: &[u16; TABLE], joined: u16, begun: Time, p: Seat, q: Seat) -> u16
+    requires { (begun.0 < limits.most_rounds) × (p.0 < limits.most_seats) × (q.0 < limits.most_seats) }
+    ensures { result ≡ max (max (count_of (own_view p (after begun)) q) (count_of (seat_view before.now p) q)) joined }
 {
     let own = own_count(Time(begun.0 + 1), p, q);
     let at = (p.0 as usize) * ROOM + (q.0 as usize);
     let kept = larger(own, true, before[at]);
-    larger(kept, true, joined_count(before, seats, from, q))
+    larger(kept, true, joined)
 }
 
 // Writes p's view after the round that begins at the time into the table of the next views, which
@@ -96,9 +107,10 @@ fn fill_view(next: &mut [u16; TABLE], farm: Farm, before: &[u16; TABLE], begun: 
     ensures { next.new ≡ views_with (farm_in farm.entry) (after begun) p }
 {
     let from = heard(farm, begun, p);
+    let joined = joined_rows(before, farm.sizes.seats, from);
     for q in 0..farm.sizes.seats {
         let at = (p.0 as usize) * ROOM + (q as usize);
-        next[at] = next_count(before, farm.sizes.seats, from, begun, p, Seat(q));
+        next[at] = next_count(before, joined.of[q as usize], begun, p, Seat(q));
     }
 }
 
@@ -158,9 +170,10 @@ fn joined_view(views: &[u16; TABLE], seats: u8, set: u16) -> Counts
     requires { seats ≤ limits.most_seats }
     ensures { result.of ≡ counts seats (joined_view seats set views.now) }
 {
+    let rows = joined_rows(views, seats, set);
     let mut view: [u16; ROOM] = [0; ROOM];
     for q in 0..seats {
-        view[q as usize] = joined_count(views, seats, set, Seat(q));
+        view[q as usize] = rows.of[q as usize];
     }
     Counts { of: view }
 }
