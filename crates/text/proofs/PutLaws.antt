@@ -75,7 +75,7 @@ told-then h first second = record {
   within = omega (arith, first.end, second.within);
 }
 
--- A word that is put in at most so many bytes, where it is the text.
-pub few-put : {k : ℕ} {word text : Text} {at end : ℕ} {old new : List ℕ} → Puts word at old new end
+-- A word that is put in at most so many bytes, where it is the text, and where its place and its end come to these.
+pub few-put : {k : ℕ} {word text : Text} {from at to end : ℕ} {old new : List ℕ} → Puts word from old new to → from ≡ at → to ≡ end
     → word ≡ text → length word ≤ k → PutsWithin k text at old new end
-few-put put same few = record { puts = rw same at put; within = omega (arith, put.end) }
+few-put put start stop same few = record { puts = rw (start, stop, same) at put; within = omega (arith, put.end) }

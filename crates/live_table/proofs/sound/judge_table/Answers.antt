@@ -12,4 +12,5 @@ pub returns : goal.returns
 returns c =
     let t = c.args.table.now in
     let arrays : Arrays t = search rules in
-    rw (c.is_ok.ensures.value, c.judge.ensures) (judged-table t arrays (omega arith))
+    let judged = judged-table t arrays (omega arith) in
+    grind (arith, c.is_ok.ensures.value, c.judge.ensures, judged)

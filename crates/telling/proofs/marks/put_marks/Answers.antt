@@ -15,7 +15,7 @@ loop-edit-preserved c =
     let s = c.in-Some.ensures.steps in
     let l = c.loop-edit.invariant in
     let short = ap length s.0.0 in
-    (omega arith, mark-laid (held c.args.core.now) _ _ _ _ _ _ c.loop-edit.out _ _ _ _ _ s.0.0 s.0.1 s.1 s.2 c.mark_of.ensures (omega arith) l.1)
+    (omega arith, mark-laid (held c.args.core.now) _ _ _ _ _ _ c.loop-edit.out _ _ _ _ _ s.0.0 s.0.1 (omega (arith, s.1)) s.2 c.mark_of.ensures (omega arith) l.1)
 
 pub returns : goal.returns
 returns c =

@@ -6,4 +6,4 @@ use Rattle.text.proofs.digits.put_number.Goals as goal
 
 pub returns : goal.returns
 returns c =
-    few-put c.put_word.ensures (c.as_bytes.ensures.value ∙ c.format.ensures.text ∙ decimal-printed c.args.value (omega arith)) (omega (arith, c.as_bytes.ensures.len))
+    few-put c.put_word.ensures (omega arith) (omega arith) (c.as_bytes.ensures.value ∙ c.format.ensures.text ∙ decimal-printed c.args.value (omega arith)) (omega (arith, c.as_bytes.ensures.len))

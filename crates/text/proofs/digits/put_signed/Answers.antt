@@ -11,4 +11,4 @@ pub returns : goal.returns
 returns c =
     let number = to_z-of_z w16 c.args.value c.ranges.value in
     let text = c.format.ensures.text ∙ ap signed_decimal number ∙ signed-printed c.args.value c.ranges.value in
-    few-put c.put_word.ensures (c.as_bytes.ensures.value ∙ text) (omega (arith, c.as_bytes.ensures.len))
+    few-put c.put_word.ensures (omega arith) (omega arith) (c.as_bytes.ensures.value ∙ text) (omega (arith, c.as_bytes.ensures.len))
