@@ -1,15 +1,18 @@
--- What `any` of the library answers over a range of seats or rounds, as the `any` of specs/Sets.antt of farm.
+-- What `any` of the library answers over a range of seats or rounds, as the `any` of specs/Sets.antt of farm; and that an empty loss set has no seat.
 -- Assumes nothing.
 use mathlib.Core.Path.{◌≡◌, refl, sym, ◌∙◌, ap}
 use mathlib.Core.Bool.{Bool, true, false, ◌||◌, ◌&&◌}
-use Prim.Native.Nat.{ℕ, zero, suc, ◌+◌, ◌-◌, ◌≤◌}
+use mathlib.Core.List.{List}
+use Prim.Native.Nat.{ℕ, zero, suc, ◌+◌, ◌-◌, ◌^◌, ◌≤◌}
 use native.Mathlib.Nat.{le_refl}
 use native.Mathlib.Numerals.{add-one}
 use native.Mathlib.Omega.{arith}
 use lib.Dec.{ltb}
+use lib.ListN.{get_or}
 use borrow.Author.Tests.{lt-ltb}
 use Rattle.std.specs.List.{list_any, range_with_len}
-use Rattle.farm.specs.Sets.{any}
+use Rattle.std.proofs.Math.Nat.{zero-div}
+use Rattle.farm.specs.Sets.{Seats, any, bit}
 
 or-assoc : (a b c : Bool) → (a || (b || c)) ≡ ((a || b) || c)
 or-assoc true b c = refl
@@ -44,3 +47,9 @@ any-rounds (suc n) test =
     any-rest (suc n - 1) 1 (λ r. test (suc (r - 1))) (λ r. ltb 0 r && test r)
     (λ k h. let same : suc (k - 1) ≡ k = omega arith in rw (lt-ltb 0 k h, same) refl)
     ∙ ap (λ (k : ℕ). any k (λ r. ltb 0 r && test r)) e
+
+-- An entry of a table that is empty has no seat.
+pub any-empty : (n : ℕ) (table : List Seats) (at : ℕ) {place : ℕ} → get_or table place 0 ≡ 0 → place ≡ at → any n (bit (get_or table at 0)) ≡ false
+unfolding any bit
+any-empty zero table at none same = refl
+any-empty (suc n) table at none same = rw (any-empty n table at none same, ← same, none, zero-div (2 ^ n))

@@ -9,14 +9,15 @@ ghost use Rattle.construction.specs.KnownSets.{is_loser_in, is_loser_by, is_lose
 
 use farm::places::{Seat, Time};
 use viewing::farms::Farm;
-use viewing::losses::was_lost;
+use viewing::losses::{loss_set, was_lost};
 use viewing::sets::with_seat;
 
-// Whether a send of z was lost in the round that begins at the time.
+// Whether a send of z was lost in the round that begins at the time. In most rounds none was, and an empty loss set says so at once.
 fn loses_in(farm: Farm, begun: Time, z: Seat) -> bool
     ensures { result ≡ is_loser_in (farm_in farm.entry) (after begun) z }
 {
-    (0..farm.sizes.seats).any(|q| was_lost(farm, begun, z, Seat(q)))
+    loss_set(farm, begun, z) != 0
+        && (0..farm.sizes.seats).any(|q| was_lost(farm, begun, z, Seat(q)))
 }
 
 // Whether a send of z was lost in the rounds up to the time.

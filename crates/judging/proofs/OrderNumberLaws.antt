@@ -1,4 +1,4 @@
--- An edit's place in the order as one number, and what a loop that carries the least number of the next edit knows.
+-- Where an edit stands in the order, as one number; and what a loop knows that carries the least number of the next edit.
 -- Assumes nothing.
 use mathlib.Core.Path.{◌≡◌, refl, sym, ◌∙◌}
 use mathlib.Core.Logic.{inl, inr, ⊎_elim}
@@ -22,7 +22,7 @@ use Rattle.judging.proofs.JudgingLaws.{order-stops, edit-on}
 
 -- ════ The number ════
 
-abbrev pub order_number : Edit → ℕ
+abbrev order_number : Edit → ℕ
 order_number e = (e.time.0 * 256 + e.seat.0) * 4294967296 + e.cell
 
 -- A seat and a cell as their types hold them.
@@ -58,7 +58,7 @@ module _ (a b : Edit) (ha : Held a) (hb : Held b) where
 
 -- ════ The loop ════
 
--- Behind some edit before, what is left of them decides, and the least number tells what may follow.
+-- For some edit before, the edits that are left decide as all do, and the least number tells which may follow.
 pub record Walked (n R least : ℕ) (left all : List Edit) : Type 0 where
   pub before : Option Edit
   pub told : (e : Edit) → Held e → ltb (order_number e) least ≡ not (follows before e)
@@ -70,7 +70,7 @@ unfolding follows
 walked-none n R all = record { before = None; told = λ e h. le-ltb _ _ (omega arith); same = refl }
 
 -- The first one that is left has a number below the least, which ends it, or it is the edit before from then on.
-module _ (n R least number : ℕ) (e : Edit) (left edits all : List Edit) (next : left ≡ e ∷ edits) (is : number ≡ order_number e) (few : n < 256)
+module _ {n R least number : ℕ} {e : Edit} {left edits all : List Edit} (next : left ≡ e ∷ edits) (is : number ≡ order_number e) (few : n < 256)
     (w : Walked n R least left all) (sound : good_edit limits n R e ≡ true) where
   held : Held e
   held = let f = edit-facts limits n R e sound in (omega (arith, f.seat), omega (arith, f.cell))
@@ -80,9 +80,9 @@ module _ (n R least number : ℕ) (e : Edit) (left edits all : List Edit) (next 
       let early = not-true _ (sym (w.told e held) ∙ lt-ltb _ _ (omega (arith, is))) in
       sym w.same ∙ rw next (order-stops limits n R w.before e edits sound early)
 
-  pub number-on : (now : ℕ) → least ≤ number → now ≡ number + 1 → Walked n R now edits all
+  pub number-on : {now : ℕ} → least ≤ number → now ≡ number + 1 → Walked n R now edits all
   unfolding follows
-  number-on now h step =
+  number-on h step =
       let late = not-false _ (sym (w.told e held) ∙ le-ltb _ _ (omega (arith, is))) in
       record {
         before = Some e;

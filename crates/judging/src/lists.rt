@@ -1,6 +1,6 @@
 // Whether lists are a good record, before anything is written from them. Document 01's order decides:
 // 3 for the header's numbers, 10 for the lengths, 4 for every loss set, then edit by edit 3 and 5.
-ghost use Rattle.std.specs.Prelude.{◌≡◌, ◌+◌, ◌*◌, ◌<◌, None, length};
+ghost use Rattle.std.specs.Prelude.{◌≡◌, ◌+◌, ◌*◌, ◌^◌, ◌<◌, None, length};
 ghost use Rattle.farm.specs.Limits.{limits};
 ghost use Rattle.record.specs.Losses.{first_seat};
 ghost use Rattle.record.specs.Good.{good_header, sender_after, good_sets, good_edit};
@@ -80,15 +80,15 @@ fn good_edit(seats: u8, rounds: u16, edit: Edit) -> bool
         && map_change(edit.change) as u32 <= LARGEST_MAPPED_CHANGE
 }
 
-// An edit's place in the order as one number: its time, then its seat, then its cell, each with room for all that its type holds.
+// Where an edit stands in the order, as one number: its time, then its seat, then its cell, each with room for all that its type holds.
 fn order_number(edit: Edit) -> u64
-    ensures { (result ≡ (edit.time.0 * 256 + edit.seat.0) * 4294967296 + edit.cell) × (result < 72057594037927936) }
+    ensures { (result ≡ (edit.time.0 * 256 + edit.seat.0) * 4294967296 + edit.cell) × (result < 2 ^ 56) }
 {
     (edit.time.0 as u64 * 256 + edit.seat.0 as u64) * 4_294_967_296 + edit.cell as u64
 }
 
 // Edit by edit: its fields first, then whether it comes after the one before. For that the loop carries the least number that the next one
-// may have: over many edits this is faster than `comes_after`, which wants the edit before.
+// may have: over many edits this is faster than `record::edits::comes_after`, which needs the edit before.
 fn judge_edits(lists: Lists) -> Result<(), Refusal>
     requires { (0 < lists.seats) × (length lists.times.now ≡ length lists.editors.now) × (length lists.cells.now ≡ length lists.editors.now) × (length lists.changes.now ≡ length lists.editors.now) }
     ensures { result ≡ judged_in (judged_edits limits lists.entry.seats lists.entry.rounds None (edits_in (tables_in lists.entry))) }

@@ -2,6 +2,7 @@
 -- Assumes nothing.
 use mathlib.Core.Path.{sym, ◌∙◌}
 use Rattle.farm.proofs.Complete.{Complete, by-facts}
+use Rattle.viewing.specs.contracts.losses.loss_set as loss-set
 use Rattle.viewing.specs.contracts.losses.was_lost as was-lost
 use Rattle.viewing.specs.contracts.sets.with_seat as with-seat
 use Rattle.viewing.specs.contracts.views.views_at as views-at
@@ -10,6 +11,9 @@ use Rattle.viewing.specs.contracts.views.view_of as view_of
 use Rattle.viewing.specs.contracts.views.view_of_set as view-of-set
 
 -- ════ Losses and sets ════
+
+pub loss-set-complete : Complete loss-set.ended (λ M 𝓤. loss-set.clauses {M = M} {𝓤 = 𝓤})
+loss-set-complete M 𝓤 𝓛 mem run κs a g r s v w = by-facts M 𝓤 _ _ _ (λ p q. (cc, cc))
 
 pub was-lost-complete : Complete was-lost.ended (λ M 𝓤. was-lost.clauses {M = M} {𝓤 = 𝓤})
 was-lost-complete M 𝓤 𝓛 mem run κs a g r s v w = by-facts M 𝓤 _ _ _ (λ p q. (cc, cc))

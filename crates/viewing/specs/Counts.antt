@@ -75,6 +75,10 @@ farm_for sizes table = farm_of sizes.seats sizes.bound sizes.rounds table
 abbrev pub farm_in : code.Farm → Farm
 farm_in farm = farm_for farm.sizes farm.losses.now
 
+-- The loss set of a send in the round that begins at the time: no seat past the table's end.
+abbrev pub loss_set_in : code.Farm → Time → Seat → Seats
+loss_set_in farm begun sender = get_or farm.losses.now (begun.0 * farm.sizes.seats + sender.0) 0
+
 -- ════ The same of seats and times, as contracts name them ════
 
 -- The count that a view has of a seat.

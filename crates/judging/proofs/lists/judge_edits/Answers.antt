@@ -27,14 +27,14 @@ returns-then-number-least c =
     let r = c.requires in
     let next = edits-next c.loop-i.i (tables_in c.args.lists) r.1 r.2 r.3 c.loop-i-test.true (search rules) in
     let sound = sym c.good_edit.ensures ∙ c.if-not-good_edit.false in
-    rw (number-stops _ _ _ _ _ _ _ _ next c.order_number-number.ensures.0 (omega arith) c.loop-i.invariant sound c.if-number-least.true)
+    rw (number-stops next c.order_number-number.ensures.0 (omega arith) c.loop-i.invariant sound (omega (arith, c.if-number-least.true)))
 
 pub loop-i-preserved : goal.loop-i-preserved
 loop-i-preserved c =
     let r = c.requires in
     let next = edits-next c.loop-i.i (tables_in c.args.lists) r.1 r.2 r.3 c.loop-i-test.true (search rules) in
     let sound = sym c.good_edit.ensures ∙ c.if-not-good_edit.false in
-    number-on _ _ _ _ _ _ _ _ next c.order_number-number.ensures.0 (omega arith) c.loop-i.invariant sound _ c.if-number-least.false (omega arith)
+    number-on next c.order_number-number.ensures.0 (omega arith) c.loop-i.invariant sound (omega (arith, c.if-number-least.false)) (omega arith)
 
 pub returns : goal.returns
 unfolding judged_in judged_edits
