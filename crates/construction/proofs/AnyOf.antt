@@ -48,7 +48,7 @@ any-rounds (suc n) test =
     (λ k h. let same : suc (k - 1) ≡ k = omega arith in rw (lt-ltb 0 k h, same) refl)
     ∙ ap (λ (k : ℕ). any k (λ r. ltb 0 r && test r)) e
 
--- An entry of a table that is empty has no seat.
+-- An empty entry of a table has no seat.
 pub any-empty : (n : ℕ) (table : List Seats) (at : ℕ) {place : ℕ} → get_or table place 0 ≡ 0 → place ≡ at → any n (bit (get_or table at 0)) ≡ false
 unfolding any bit
 any-empty zero table at none same = refl

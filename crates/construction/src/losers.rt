@@ -12,7 +12,7 @@ use viewing::farms::Farm;
 use viewing::losses::{loss_set, was_lost};
 use viewing::sets::with_seat;
 
-// Whether a send of z was lost in the round that begins at the time. In most rounds none was, and an empty loss set says so at once.
+// Whether a send of z was lost in the round that begins at the time. An empty loss set says at once that it was not.
 fn loses_in(farm: Farm, begun: Time, z: Seat) -> bool
     ensures { result ≡ is_loser_in (farm_in farm.entry) (after begun) z }
 {
